@@ -6,7 +6,8 @@ use Prim.Native.Nat.{ℕ}
 use Prim.Native.String.{String, _++_}
 use Rattle.rules.specs.Quoted.{bytes}
 use Rattle.rules.specs.Facts.{factsOf}
-use Rattle.rules.specs.Merge.{merge, contentClashes, parentClashes, neighbourClashes, brokenLists, lostEdits, mergedTree, keptPositions, keptContents, positionEdits, contentEdits, walk, follower, contentIn}
+use Rattle.rules.specs.Merge.{merge, contentClashes, parentClashes, neighbourClashes, brokenLists, lostEdits, mergedTree}
+use Rattle.rules.specs.Merge.{keptPositions, keptContents, positionEdits, contentEdits, walk, follower, contentIn}
 use Rattle.rules.specs.Written.{digits}
 use Rattle.rules.specs.Calls.{mergeTexts, mergeTables, shown}
 
@@ -51,5 +52,6 @@ abbrev pub printed : Example → List ℕ
 printed e = shown (mergeTexts (bytes (e .old)) (bytes (e .first) ∷ bytes (e .second) ∷ []) 32768 8192)
 
 pub exact : map printed examples ≡ map (λ (e : Example). bytes (e .output)) examples
-unfolding mergeTexts mergeTables merge contentClashes parentClashes neighbourClashes brokenLists lostEdits mergedTree keptPositions keptContents positionEdits contentEdits walk follower contentIn factsOf digits
+unfolding mergeTexts mergeTables merge contentClashes parentClashes neighbourClashes brokenLists lostEdits mergedTree
+    keptPositions keptContents positionEdits contentEdits walk follower contentIn factsOf digits
 exact = refl

@@ -14,7 +14,7 @@ use Rattle.rules.specs.Tree.{Tree, rows, greatestDepth}
 use Rattle.rules.specs.Facts.{factsOf}
 use Rattle.rules.specs.Merge.{Result, refused, merged, merge}
 use Rattle.rules.specs.Written.{digits, tidied, writtenTree, over}
-use Rattle.rules.specs.Ledger.{Entry, entries, ledger}
+use Rattle.rules.specs.Ledger.{Entry, entriesOf, ledger}
 use Rattle.rules.specs.declared.answers.Checked.{Checked}
 use Rattle.rules.specs.declared.answers.Tidied.{Tidied}
 use Rattle.rules.specs.declared.answers.Part.{Part}
@@ -116,7 +116,7 @@ judged (merged f) next = next f
 unfoldable pub mergeTables : List Row → List (List Row) → ℕ → ℕ → Outcome
 mergeTables old branches tableRoom ledgerRoom =
     judged (merge (factsOf old) (map factsOf branches))
-    (λ f. packed f (entries (factsOf old) (map factsOf branches) (rows TOP f)) tableRoom ledgerRoom)
+    (λ f. packed f (entriesOf old branches f) tableRoom ledgerRoom)
 
 unfoldable pub mergeTexts : List ℕ → List (List ℕ) → ℕ → ℕ → Outcome
 mergeTexts old branches tableRoom ledgerRoom =

@@ -10,12 +10,13 @@ use Rattle.rules.specs.Lists.{_∈_, NoneTwice, every}
 use Rattle.rules.specs.Marks.{TOP, START, isRecord}
 use Rattle.rules.specs.Text.{allowed, contentOk}
 use Rattle.rules.specs.Line.{Row}
-use Rattle.rules.specs.Table.{numbers}
+use Rattle.rules.specs.Table.{numbers, verdict, readable}
 use Rattle.rules.specs.Tree.{Tree, numbersIn, rows}
-use Rattle.rules.specs.Facts.{PositionFact, ContentFact, Facts, treePositions, treeContents}
+use Rattle.rules.specs.Facts.{PositionFact, ContentFact, Facts, factsOf, treePositions, treeContents}
 use Rattle.rules.specs.Merge.{positionEdits, contentEdits}
 use Rattle.rules.specs.Written.{writtenTree}
-use Rattle.rules.specs.Ledger.{Entry}
+use Rattle.rules.specs.Ledger.{Entry, entriesOf, ledger}
+use Rattle.rules.specs.Calls.{Outcome, notRead, clash, tooLarge, noRoom, done}
 
 -- ---- tables and trees
 
@@ -80,3 +81,25 @@ traded mark = cond (eqb mark 1) 2 (cond (eqb mark 2) 1 mark)
 
 abbrev pub tradedEntry : Entry → Entry
 tradedEntry e = record { number = e .number; origin = traded (e .origin); bytes = e .bytes }
+
+-- the same outcome, with the desk marks of its ledger traded
+abbrev pub tradedOutcome : Outcome → Outcome
+tradedOutcome (notRead table code line) = notRead table code line
+tradedOutcome (clash code place) = clash code place
+tradedOutcome tooLarge = tooLarge
+tradedOutcome (noRoom code long ledgerLong) = noRoom code long ledgerLong
+tradedOutcome (done table es) = done table (map tradedEntry es)
+
+-- ---- demand 3 on texts
+
+-- the texts' tables, all of them readable
+pub record Tables (old : List ℕ) (branches : List (List ℕ)) (o : List Row) (bs : List (List Row)) : Type 0 where
+  pub old-read : verdict old ≡ readable o
+  pub branches-read : map verdict branches ≡ map readable bs
+
+-- the tree f answers the merge of these tables, is within the limits, and fits with its ledger into the room of the two buffers
+pub record Answered (o : List Row) (bs : List (List Row)) (tableRoom ledgerRoom : ℕ) (f : Tree) : Type 0 where
+  pub answers : Answers (factsOf o) (map factsOf bs) f
+  pub within : Within f
+  pub table-room : length (writtenTree f) ≤ tableRoom
+  pub ledger-room : length (ledger (entriesOf o bs f)) ≤ ledgerRoom

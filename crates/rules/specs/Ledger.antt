@@ -1,4 +1,5 @@
--- The ledger: where each merged record's content came from. `old` and `branches` are the facts of the tables, x a merged row.
+-- The ledger: where each merged record's content came from. `old` and `branches` are the facts of the tables, or the
+-- tables, x a merged row.
 -- Assumes nothing.
 use mathlib.Core.Bool.{Bool, cond}
 use mathlib.Core.List.{List, [], _∷_, _++_, map}
@@ -6,9 +7,11 @@ use Prim.Native.Nat.{ℕ, suc, _+_}
 use lib.ListN.{length}
 use Rattle.rules.specs.Lists.{put, any, flat, sum}
 use Rattle.rules.specs.Quoted.{bytes}
+use Rattle.rules.specs.Marks.{TOP}
 use Rattle.rules.specs.Text.{TAB, LF}
 use Rattle.rules.specs.Line.{Row}
-use Rattle.rules.specs.Facts.{Facts, contentOf, sameContentFact}
+use Rattle.rules.specs.Tree.{Tree, rows}
+use Rattle.rules.specs.Facts.{Facts, factsOf, contentOf, sameContentFact}
 use Rattle.rules.specs.Written.{digits}
 
 -- ---- origins
@@ -38,6 +41,10 @@ pub record Entry : Type 0 where
 -- "One line for each merged record in written order"; "Bytes is the length of that content"
 abbrev pub entries : Facts → List Facts → List Row → List Entry
 entries old branches t = map (λ (x : Row). record { number = x .number; origin = origin old branches x; bytes = length (x .content) }) t
+
+-- those of a merged tree
+abbrev pub entriesOf : List Row → List (List Row) → Tree → List Entry
+entriesOf old branches f = entries (factsOf old) (map factsOf branches) (rows TOP f)
 
 abbrev pub entryLine : Entry → List ℕ
 entryLine e = digits (e .number) ++ (TAB ∷ (digits (e .origin) ++ (TAB ∷ (digits (e .bytes) ++ (LF ∷ [])))))

@@ -10,7 +10,9 @@ use Rattle.rules.specs.Lists.{keep, flat}
 use Rattle.rules.specs.Marks.{TOP, START, isRecord}
 use Rattle.rules.specs.Line.{Content}
 use Rattle.rules.specs.Tree.{Tree, empty, node, STEPS}
-use Rattle.rules.specs.Facts.{PositionFact, ContentFact, ParentGiven, Facts, treePositions, treeContents, samePosition, sameContentFact, contentsDisagree, parentsGiven, parentsDiffer, neighboursDisagree, positionsDisagree, lacking, edits, kept, disagreeing}
+use Rattle.rules.specs.Facts.{PositionFact, ContentFact, ParentGiven, Facts, treePositions, treeContents, samePosition}
+use Rattle.rules.specs.Facts.{sameContentFact, contentsDisagree, parentsGiven, parentsDiffer, neighboursDisagree, positionsDisagree}
+use Rattle.rules.specs.Facts.{lacking, edits, kept, disagreeing}
 
 -- ---- the walk
 
