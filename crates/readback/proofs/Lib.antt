@@ -1,0 +1,12 @@
+-- What is proved on bytes, in reading order: texts and decimals, the rows that may follow one another, read-back and its converse,
+-- trees, tidy, and the parts told for contents.
+pub mod Splitting
+pub mod Decimals
+pub mod Following
+pub mod Faults
+pub mod Accepting
+pub mod ReadBack
+pub mod Canonical
+pub mod TreesBack
+pub mod Tidying
+pub mod Parts
