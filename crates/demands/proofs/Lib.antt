@@ -1,0 +1,9 @@
+-- The demands, over the texts handed in and the bytes written. Begin with OnTheCall.
+pub mod Packing
+pub mod Reading
+pub mod Coded
+pub mod Swapping
+pub mod Demand1
+pub mod Demand2
+pub mod Demand3
+pub mod OnTheCall

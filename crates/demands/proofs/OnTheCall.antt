@@ -1,0 +1,133 @@
+-- The three demands on a call of merge that keeps its promise, `Merges`: here a visitor begins. `old`, `first` and `second` are the texts
+-- handed in, `table` and `ledger` the lent buffers before the call; a name with a prime is a buffer after it. Assumes nothing.
+use mathlib.Core.Path.{_≡_, sym, ap, _∙_}
+use mathlib.Core.Logic.{_↔_}
+use mathlib.Core.List.{List, [], _∷_}
+use Prim.Native.Nat.{ℕ}
+use lib.ListN.{length, take, drop}
+use lib.Seq.{take-append-seam}
+use Rattle.rules.specs.Codes.{accepted}
+use Rattle.rules.specs.Marks.{TOP}
+use Rattle.rules.specs.Line.{Row}
+use Rattle.rules.specs.Table.{readable, verdict}
+use Rattle.rules.specs.Tree.{Tree, rows, treeOf}
+use Rattle.rules.specs.Written.{writtenTree, over}
+use Rattle.rules.specs.Ledger.{Entry, entriesOf, ledger as ledgerOf}
+use Rattle.rules.specs.Calls.{Outcome, done, mergeOutcome, answerOf, told, tableAfter, ledgerAfter}
+use Rattle.rules.specs.Promises.{Merges}
+use Rattle.rules.specs.Demands.{Within, Tables, Answered, tradedOutcome}
+use Rattle.rules.specs.declared.answers.Merged.{Merged}
+use Rattle.demands.proofs.Reading.{done-read}
+use Rattle.demands.proofs.Coded.{texts-coded, zero-done}
+use Rattle.demands.proofs.Swapping.{traded-answer, traded-table}
+use Rattle.demands.proofs.Demand1.{merge-refused}
+use Rattle.demands.proofs.Demand2.{merged-back}
+use Rattle.demands.proofs.Demand3.{done-answered, answered-done, one-tree, swapped}
+
+-- what an accepted call has written: this tree, with these entries in the ledger
+pub record Wrote (table ledger : List ℕ) (answer : Merged) (table′ ledger′ : List ℕ) (f : Tree) (es : List Entry) : Type 0 where
+  pub answer-is : answer ≡ told accepted 0 0 (length (writtenTree f)) (length (ledgerOf es))
+  pub table-is : table′ ≡ over (writtenTree f) table
+  pub ledger-is : ledger′ ≡ over (ledgerOf es) ledger
+  -- "A table written and read back is the same tree."
+  pub read-back : verdict (take (answer .«table_length») table′) ≡ readable (rows TOP f)
+  pub same-tree : treeOf (rows TOP f) ≡ f
+
+module _ (old first second table ledger : List ℕ) (answer : Merged) (table′ ledger′ : List ℕ)
+    (call : Merges old first second table ledger answer table′ ledger′) where
+  abbrev end : Outcome
+  end = mergeOutcome old first second table ledger
+
+  abbrev branches : List (List ℕ)
+  branches = first ∷ second ∷ []
+
+  code-is : answer .code ≡ answerOf end .code
+  code-is = ap (λ (m : Merged). m .code) (call .answered)
+
+  ended : answer .code ≡ accepted → (bytes : List ℕ) × (es : List Entry) × (end ≡ done bytes es)
+  ended z = zero-done end (texts-coded old branches (length table) (length ledger)) (sym code-is ∙ z)
+
+  -- ---- demand 1: "A refused call leaves both lent buffers untouched."
+
+  pub demand1 : (answer .code ≡ accepted → ⊥) → (table′ ≡ table) × (ledger′ ≡ ledger)
+  demand1 = merge-refused old first second table ledger answer table′ ledger′ call
+
+  -- ---- demand 2: what is written is document 01's, and reads back as the same tree
+
+  wrote : (f : Tree) (es : List Entry) → Within f → end ≡ done (writtenTree f) es → Wrote table ledger answer table′ ledger′ f es
+  wrote f es within d =
+      record {
+        answer-is = is;
+        table-is = tabled;
+        ledger-is = call .ledgered ∙ ap (λ (x : Outcome). ledgerAfter x ledger) d;
+        read-back = ap verdict bytes ∙ merged-back f within .0;
+        same-tree = merged-back f within .1;
+      }
+    where
+      is : answer ≡ told accepted 0 0 (length (writtenTree f)) (length (ledgerOf es))
+      is = call .answered ∙ ap answerOf d
+
+      tabled : table′ ≡ over (writtenTree f) table
+      tabled = call .tabled ∙ ap (λ (x : Outcome). tableAfter x table) d
+
+      bytes : take (answer .«table_length») table′ ≡ writtenTree f
+      bytes =
+          ap (λ (m : Merged). take (m .«table_length») table′) is
+          ∙ ap (take (length (writtenTree f))) tabled
+          ∙ take-append-seam (writtenTree f) (drop (length (writtenTree f)) table)
+
+  -- a tree that answers the merge of these tables, within the limits and the room of the two buffers
+  abbrev Fits : List Row → List (List Row) → Tree → Type 0
+  Fits o bs f = Answered o bs (length table) (length ledger) f
+
+  -- an accepted call had three readable tables, and wrote a tree that answers their merge
+  pub demand2 : answer .code ≡ accepted → (o : List Row) × (bs : List (List Row)) × (f : Tree)
+      × Tables old branches o bs × Fits o bs f × Wrote table ledger answer table′ ledger′ f (entriesOf o bs f)
+  demand2 z =
+      let d = ended z in
+      let r = done-read old branches (length table) (length ledger) (d .0) (d .1) (d .2) in
+      let w = done-answered old branches (r .0) (r .1) (r .2) (length table) (length ledger) (d .0) (d .1) (d .2) in
+      (r .0, r .1, w .0, r .2, w .1, rewritten (r .0) (r .1) (w .0) (w .1 .within) (d .0) (d .1) (d .2) (w .2) (w .3))
+    where
+      rewritten : (o : List Row) (bs : List (List Row)) (f : Tree) → Within f → (bytes : List ℕ) (es : List Entry) → end ≡ done bytes es
+          → bytes ≡ writtenTree f → es ≡ entriesOf o bs f → Wrote table ledger answer table′ ledger′ f (entriesOf o bs f)
+      rewritten o bs f within bytes es d p q = wrote f (entriesOf o bs f) within (d ∙ λ i. done (p i) (q i))
+
+  -- ---- demand 3: "Accepted exactly if a tree exists"; "Only one such tree exists, and it is what is written."
+
+  module _ (o : List Row) (bs : List (List Row)) (read : Tables old branches o bs) where
+    fits-done : (f : Tree) → Fits o bs f → end ≡ done (writtenTree f) (entriesOf o bs f)
+    fits-done = answered-done old branches o bs read (length table) (length ledger)
+
+    pub demand3 : (answer .code ≡ accepted) ↔ ((f : Tree) × Fits o bs f)
+    demand3 = (to, λ w. code-is ∙ ap (λ (x : Outcome). answerOf x .code) (fits-done (w .0) (w .1)))
+      where
+        to : answer .code ≡ accepted → (f : Tree) × Fits o bs f
+        to z =
+            let d = ended z in
+            let w = done-answered old branches o bs read (length table) (length ledger) (d .0) (d .1) (d .2) in
+            (w .0, w .1)
+
+    pub demand3-one : (f g : Tree) → Fits o bs f → Fits o bs g → f ≡ g
+    demand3-one f g v w = one-tree old branches o bs read f g (v .answers) (w .answers)
+
+    pub demand3-written : (f : Tree) → Fits o bs f → Wrote table ledger answer table′ ledger′ f (entriesOf o bs f)
+    demand3-written f w = wrote f (entriesOf o bs f) (w .within) (fits-done f w)
+
+-- ---- demand 3: "Swapping the desks gives the same table or the same refusal; in the ledger only the desk marks trade places."
+
+module _ (old first second table ledger : List ℕ) (answer answer′ : Merged) (table₁ ledger₁ table₂ ledger₂ : List ℕ)
+    (call : Merges old first second table ledger answer table₁ ledger₁)
+    (turned : Merges old second first table ledger answer′ table₂ ledger₂)
+    (o f s : List Row) (read : Tables old (first ∷ second ∷ []) o (f ∷ s ∷ [])) where
+  abbrev outcome : Outcome
+  outcome = mergeOutcome old first second table ledger
+
+  swap : mergeOutcome old second first table ledger ≡ tradedOutcome outcome
+  swap = swapped old first second o f s read (length table) (length ledger)
+
+  pub demand3-swapped : (answer′ ≡ answer) × (table₂ ≡ table₁) × (ledger₂ ≡ ledgerAfter (tradedOutcome outcome) ledger)
+  demand3-swapped =
+      (turned .answered ∙ ap answerOf swap ∙ traded-answer outcome ∙ sym (call .answered),
+      turned .tabled ∙ ap (λ (x : Outcome). tableAfter x table) swap ∙ traded-table outcome table ∙ sym (call .tabled),
+      turned .ledgered ∙ ap (λ (x : Outcome). ledgerAfter x ledger) swap)
