@@ -11,8 +11,8 @@ use Rattle.rules.specs.Line.{Row}
 use Rattle.rules.specs.Table.{Verdict, readable, unreadable, verdict}
 use Rattle.rules.specs.Tree.{Tree}
 use Rattle.rules.specs.Facts.{Facts, factsOf}
-use Rattle.rules.specs.Merge.{Result, refused, merged, refuse, merge, mergedTree}
-use Rattle.rules.specs.Merge.{contentClashes, parentClashes, neighbourClashes, brokenLists, lostEdits}
+use Rattle.rules.specs.Merge.{Result, refused, merged, refuse, merge, mergedTree, contentClashes, parentClashes, neighbourClashes}
+use Rattle.rules.specs.Merge.{brokenLists, lostEdits}
 use Rattle.rules.specs.Written.{writtenTree}
 use Rattle.rules.specs.Ledger.{Entry, entriesOf, ledger}
 use Rattle.rules.specs.Calls.{Outcome, notRead, clash, tooLarge, noRoom, done, onceRead, onceAllRead, overLimits, packed, judged}

@@ -9,8 +9,8 @@ use lib.ListN.{length}
 use Rattle.rules.specs.Codes.{accepted, tableTooShort}
 use Rattle.rules.specs.Table.{Verdict, readable, unreadable, verdict}
 use Rattle.rules.specs.Written.{tidied, over}
-use Rattle.rules.specs.Calls.{tidyOf, tidyTold, tidyInto}
-use Rattle.rules.specs.Calls.{Outcome, notRead, clash, tooLarge, noRoom, done, answerOf, tableAfter, ledgerAfter, mergeOutcome}
+use Rattle.rules.specs.Calls.{tidyOf, tidyTold, tidyInto, Outcome, notRead, clash, tooLarge, noRoom, done, answerOf, tableAfter}
+use Rattle.rules.specs.Calls.{ledgerAfter, mergeOutcome}
 use Rattle.rules.specs.Promises.{Tidies, Merges}
 use Rattle.rules.specs.declared.answers.Tidied.{Tidied}
 use Rattle.rules.specs.declared.answers.Merged.{Merged}

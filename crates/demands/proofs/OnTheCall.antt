@@ -127,7 +127,8 @@ module _ (old first second table ledger : List ℕ) (answer answer′ : Merged) 
   swap = swapped old first second o f s read (length table) (length ledger)
 
   pub demand3-swapped : (answer′ ≡ answer) × (table₂ ≡ table₁) × (ledger₂ ≡ ledgerAfter (tradedOutcome outcome) ledger)
-  demand3-swapped =
-      (turned .answered ∙ ap answerOf swap ∙ traded-answer outcome ∙ sym (call .answered),
-      turned .tabled ∙ ap (λ (x : Outcome). tableAfter x table) swap ∙ traded-table outcome table ∙ sym (call .tabled),
-      turned .ledgered ∙ ap (λ (x : Outcome). ledgerAfter x ledger) swap)
+  demand3-swapped = (
+    turned .answered ∙ ap answerOf swap ∙ traded-answer outcome ∙ sym (call .answered),
+    turned .tabled ∙ ap (λ (x : Outcome). tableAfter x table) swap ∙ traded-table outcome table ∙ sym (call .tabled),
+    turned .ledgered ∙ ap (λ (x : Outcome). ledgerAfter x ledger) swap,
+  )

@@ -37,7 +37,7 @@ module _ (f : Tree) (es : List Entry) (a b : ℕ) where
         le-ltb LINES (length (rows TOP f)) (p .few),
         le-ltb BYTES (length (writtenTree f)) (p .short),
         le-ltb a (length (writtenTree f)) (p .table-room),
-        le-ltb b (length (ledger es)) (p .ledger-room)
+        le-ltb b (length (ledger es)) (p .ledger-room),
       )
 
   -- what is written is this tree with these entries
@@ -55,10 +55,13 @@ module _ (f : Tree) (es : List Entry) (a b : ℕ) where
       go false true w x p q r s e = let o : _≡_ {A = ℕ} 0 1 = cc in absurd (omega arith)
       go false false true x p q r s e = let o : _≡_ {A = ℕ} 0 1 = cc in absurd (omega arith)
       go false false false true p q r s e = let o : _≡_ {A = ℕ} 0 1 = cc in absurd (omega arith)
-      go false false false false p q r s e =
-          (record {
-            few = ltb-false LINES (length (rows TOP f)) p;
-            short = ltb-false BYTES (length (writtenTree f)) q;
-            table-room = ltb-false a (length (writtenTree f)) r;
-            ledger-room = ltb-false b (length (ledger es)) s;
-          }, cc, cc)
+      go false false false false p q r s e = (
+        record {
+          few = ltb-false LINES (length (rows TOP f)) p;
+          short = ltb-false BYTES (length (writtenTree f)) q;
+          table-room = ltb-false a (length (writtenTree f)) r;
+          ledger-room = ltb-false b (length (ledger es)) s;
+        },
+        cc,
+        cc,
+      )

@@ -39,7 +39,7 @@ entry-length e =
       length-append (digits (e .number)) (from (e .origin)),
       length-append (digits (traded (e .origin))) rest,
       length-append (digits (e .origin)) rest,
-      mark-length (e .origin)
+      mark-length (e .origin),
     )
 
 entries-length : (es : List Entry) → length (flat entryLine (map tradedEntry es)) ≡ length (flat entryLine es)

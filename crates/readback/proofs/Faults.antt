@@ -10,7 +10,8 @@ use lib.Dec.{T, T-not, not-T, eqb, leb, ltb, eqb-refl}
 use mir.Facts.{T-not-not, and-yes, and-no, eqb-yes, yes-eqb, leb-yes, leb-no, no-leb, ltb-no, no-ltb}
 use borrow.Author.Tests.{eqb-true, eqb-false}
 use Rattle.rules.specs.Limits.{LINES, GREATEST}
-use Rattle.rules.specs.Codes.{accepted, tooManyLines, byteNotAllowed, fewTabs, badNumber, badParent, badContent, numberTwice, parentMissing}
+use Rattle.rules.specs.Codes.{accepted, tooManyLines, byteNotAllowed, fewTabs, badNumber, badParent, badContent, numberTwice}
+use Rattle.rules.specs.Codes.{parentMissing}
 use Rattle.rules.specs.Lists.{_∈_, every}
 use Rattle.rules.specs.Marks.{TOP, isRecord}
 use Rattle.rules.specs.Text.{TAB, allowed, count, after, decimal, contentOk}

@@ -2,8 +2,8 @@
 -- lines. t is a table, `seen` are the rows of the lines before, x is a row, n a number. Assumes nothing.
 use mathlib.Core.Path.{_≡_, refl, sym, subst}
 use mathlib.Core.Logic.{_⊎_, inl, inr}
-use mathlib.Core.List.{List, [], _∷_, _++_, map-append, List·Memᴰ·head as here, List·Memᴰ·tail as there}
-use mathlib.Core.List.{Memᴰ·cast, Memᴰ·append-left, Memᴰ·append-right, List·Memᴰ·append-cases, List·Memᴰ·not-nil}
+use mathlib.Core.List.{List, [], _∷_, _++_, map-append, List·Memᴰ·head as here, List·Memᴰ·tail as there, Memᴰ·cast, Memᴰ·append-left}
+use mathlib.Core.List.{Memᴰ·append-right, List·Memᴰ·append-cases, List·Memᴰ·not-nil}
 use Prim.Native.Nat.{ℕ, _+_, _<_, _≤_}
 use native.Mathlib.Omega.{arith}
 use lib.ListN.{length, length-append}

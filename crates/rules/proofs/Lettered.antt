@@ -8,8 +8,8 @@ use Rattle.rules.specs.Marks.{TOP}
 use Rattle.rules.specs.Tree.{Tree, empty, node, rows}
 use Rattle.rules.specs.Facts.{Facts, factsOf}
 use Rattle.rules.specs.Merge.{Result, refused, merged, merge, contentClashes, parentClashes, neighbourClashes, brokenLists}
-use Rattle.rules.specs.Merge.{lostEdits, mergedTree, keptPositions, keptContents, positionEdits, contentEdits}
-use Rattle.rules.specs.Merge.{walk, follower, contentIn}
+use Rattle.rules.specs.Merge.{lostEdits, mergedTree, keptPositions, keptContents, positionEdits, contentEdits, walk, follower}
+use Rattle.rules.specs.Merge.{contentIn}
 
 infixr 60 _·_ _✶_ _⟨_⟩_
 abbrev ∅ : Tree

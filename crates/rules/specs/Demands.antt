@@ -12,7 +12,7 @@ use Rattle.rules.specs.Text.{allowed, contentOk}
 use Rattle.rules.specs.Line.{Row}
 use Rattle.rules.specs.Table.{numbers, verdict, readable}
 use Rattle.rules.specs.Tree.{Tree, numbersIn, rows}
-use Rattle.rules.specs.Facts.{PositionFact, ContentFact, Facts, factsOf, treePositions, treeContents}
+use Rattle.rules.specs.Facts.{PositionFact, ContentFact, Facts, positionsOf, contentsOf, factsOf, treePositions, treeContents}
 use Rattle.rules.specs.Merge.{positionEdits, contentEdits}
 use Rattle.rules.specs.Written.{writtenTree}
 use Rattle.rules.specs.Ledger.{Entry, entriesOf, ledger}
@@ -72,8 +72,8 @@ pub record Answers (old : Facts) (branches : List Facts) (f : Tree) : Type 0 whe
   pub tree : IsTree f
   pub positions-edited : (a : PositionFact) → a ∈ positionEdits old branches → a ∈ treePositions TOP START f
   pub contents-edited : (a : ContentFact) → a ∈ contentEdits old branches → a ∈ treeContents f
-  pub positions-known : (a : PositionFact) → a ∈ treePositions TOP START f → Known (λ (t : Facts). t .positions) old branches a
-  pub contents-known : (a : ContentFact) → a ∈ treeContents f → Known (λ (t : Facts). t .contents) old branches a
+  pub positions-known : (a : PositionFact) → a ∈ treePositions TOP START f → Known positionsOf old branches a
+  pub contents-known : (a : ContentFact) → a ∈ treeContents f → Known contentsOf old branches a
 
 -- "in the ledger only the desk marks trade places"
 abbrev pub traded : ℕ → ℕ

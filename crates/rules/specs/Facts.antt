@@ -25,6 +25,12 @@ pub record Facts : Type 0 where
   pub positions : List PositionFact
   pub contents : List ContentFact
 
+abbrev pub positionsOf : Facts → List PositionFact
+positionsOf t = t .positions
+
+abbrev pub contentsOf : Facts → List ContentFact
+contentsOf t = t .contents
+
 abbrev pub position : ℕ → ℕ → ℕ → PositionFact
 position r p s = record { parent = r; before = p; after = s }
 

@@ -1,6 +1,7 @@
 -- The words on lists that the rules are said in: those that pass a test, whether one or all pass, and what stands in a list.
 -- Assumes nothing.
 use mathlib.Core.Bool.{Bool, true, false, _&&_, _||_}
+use mathlib.Core.Option.{Option, none, some}
 use mathlib.Core.List.{List, [], _∷_, _++_, List·Memᴰ}
 use Prim.Native.Nat.{ℕ, _+_}
 
@@ -14,6 +15,11 @@ module _ {A : Type 0} where
   abbrev pub NoneTwice : List A → Type 0
   NoneTwice [] = Unit {0}
   NoneTwice (x ∷ xs) = (x ∈ xs → ⊥) × NoneTwice xs
+
+  -- the first of them, if there is one
+  abbrev pub first : List A → Option A
+  first [] = none
+  first (x ∷ xs) = some x
 
   -- x first, if the test passed
   abbrev pub put : Bool → A → List A → List A

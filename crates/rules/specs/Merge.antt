@@ -6,19 +6,15 @@ use mathlib.Core.List.{List, [], _∷_, _++_, map}
 use Prim.Native.Nat.{ℕ, zero, suc, min}
 use lib.Dec.{eqb}
 use Rattle.rules.specs.Codes.{contentClash, parentClash, neighbourClash, brokenList, lostEdit}
-use Rattle.rules.specs.Lists.{keep, flat}
+use Rattle.rules.specs.Lists.{first, keep, flat}
 use Rattle.rules.specs.Marks.{TOP, START, isRecord}
 use Rattle.rules.specs.Line.{Content}
 use Rattle.rules.specs.Tree.{Tree, empty, node, STEPS}
-use Rattle.rules.specs.Facts.{PositionFact, ContentFact, ParentGiven, Facts, treePositions, treeContents, samePosition}
-use Rattle.rules.specs.Facts.{sameContentFact, contentsDisagree, parentsGiven, parentsDiffer, neighboursDisagree, positionsDisagree}
-use Rattle.rules.specs.Facts.{lacking, edits, kept, disagreeing}
+use Rattle.rules.specs.Facts.{PositionFact, ContentFact, ParentGiven, Facts, positionsOf, contentsOf, treePositions, treeContents}
+use Rattle.rules.specs.Facts.{samePosition, sameContentFact, contentsDisagree, parentsGiven, parentsDiffer, neighboursDisagree}
+use Rattle.rules.specs.Facts.{positionsDisagree, lacking, edits, kept, disagreeing}
 
 -- ---- the walk
-
-abbrev pub first : {A : Type 0} → List A → Option A
-first [] = none
-first (x ∷ xs) = some x
 
 -- the record to which a fact goes on from p under r
 abbrev pub goesOn : ℕ → ℕ → PositionFact → Bool
@@ -62,10 +58,10 @@ refuse code (place ∷ places) result = refused code (least place places)
 
 module _ (old : Facts) (branches : List Facts) where
   unfoldable pub positionEdits : List PositionFact
-  positionEdits = edits samePosition (old .positions) (map (λ (b : Facts). b .positions) branches)
+  positionEdits = edits samePosition (old .positions) (map positionsOf branches)
 
   unfoldable pub contentEdits : List ContentFact
-  contentEdits = edits sameContentFact (old .contents) (map (λ (b : Facts). b .contents) branches)
+  contentEdits = edits sameContentFact (old .contents) (map contentsOf branches)
 
   unfoldable pub keptPositions : List PositionFact
   keptPositions = kept positionsDisagree positionEdits (old .positions)

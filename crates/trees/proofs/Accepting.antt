@@ -12,15 +12,15 @@ use Rattle.rules.specs.Codes.{brokenList, contentClash, lostEdit, neighbourClas
 use Rattle.rules.specs.Lists.{_∈_, any, flat}
 use Rattle.rules.specs.Marks.{START, TOP, isRecord}
 use Rattle.rules.specs.Tree.{STEPS, Tree}
-use Rattle.rules.specs.Facts.{ContentFact, Facts, ParentGiven, PositionFact, contentsDisagree, lacking, neighboursDisagree, parentsDiffer}
-use Rattle.rules.specs.Facts.{parentsDisagree, parentsGiven, positionsDisagree, sameContent, sameContentFact, samePosition, treeContents}
-use Rattle.rules.specs.Facts.{treePositions}
+use Rattle.rules.specs.Facts.{ContentFact, Facts, ParentGiven, PositionFact, contentsDisagree, contentsOf, lacking, neighboursDisagree}
+use Rattle.rules.specs.Facts.{parentsDiffer, positionsOf, parentsDisagree, parentsGiven, positionsDisagree, sameContent, sameContentFact}
+use Rattle.rules.specs.Facts.{samePosition, treeContents, treePositions}
 use Rattle.rules.specs.Merge.{Result, brokenLists, contentClashes, contentEdits, contentIn, follower, keptContents, keptPositions}
 use Rattle.rules.specs.Merge.{lostEdits, merge, merged, mergedTree, neighbourClashes, parentClashes, positionEdits, refuse}
 use Rattle.rules.specs.Demands.{Answers, IsTree, Known}
 use Rattle.trees.proofs.Lists.{any-in, any-out, either, flat-in}
 use Rattle.trees.proofs.Kept.{Coherent, edit-kept, kept-coherent, kept-known, lacking-none, none-coherent, old-kept, old-or-edit}
-use Rattle.trees.proofs.Disagreeing.{content-tells, contentsOf, parentOf, position-flip, position-tells, positionsOf, recordOf}
+use Rattle.trees.proofs.Disagreeing.{content-tells, parentOf, position-flip, position-tells, recordOf}
 use Rattle.trees.proofs.Walk.{found-in, position-to, walk-content}
 use Rattle.trees.proofs.Reached.{walk-tree}
 use Rattle.trees.proofs.Answering.{Sound}

@@ -9,14 +9,14 @@ use Rattle.rules.specs.Codes.{brokenList, contentClash, lostEdit, neighbourClas
 use Rattle.rules.specs.Lists.{_∈_, any, flat}
 use Rattle.rules.specs.Marks.{START, TOP, isRecord}
 use Rattle.rules.specs.Tree.{STEPS, Tree}
-use Rattle.rules.specs.Facts.{ContentFact, Facts, ParentGiven, PositionFact, contentsDisagree, neighboursDisagree, parentsDiffer}
-use Rattle.rules.specs.Facts.{parentsDisagree, parentsGiven, positionsDisagree, treeContents, treePositions}
+use Rattle.rules.specs.Facts.{ContentFact, Facts, ParentGiven, PositionFact, contentsDisagree, contentsOf, neighboursDisagree}
+use Rattle.rules.specs.Facts.{parentsDiffer, positionsOf, parentsDisagree, parentsGiven, positionsDisagree, treeContents, treePositions}
 use Rattle.rules.specs.Merge.{Result, brokenLists, contentClashes, contentEdits, contentIn, follower, keptContents, keptPositions}
 use Rattle.rules.specs.Merge.{lostEdits, merge, merged, mergedTree, neighbourClashes, parentClashes, positionEdits, refuse}
 use Rattle.rules.specs.Demands.{Answers}
 use Rattle.trees.proofs.Lists.{any-in, flat-out, or-left, or-right}
 use Rattle.trees.proofs.Kept.{Coherent, InSome, all-kept, coherent-none, kept-agrees, none-lacking}
-use Rattle.trees.proofs.Disagreeing.{content-tells, contentsOf, parentOf, position-tells, positionsOf, recordOf}
+use Rattle.trees.proofs.Disagreeing.{content-tells, parentOf, position-tells, recordOf}
 use Rattle.trees.proofs.Trees.{tree-contents-coherent, tree-positions-coherent}
 use Rattle.trees.proofs.Walk.{content-is, follow, goes}
 use Rattle.trees.proofs.Reached.{tree-small}

@@ -7,12 +7,12 @@ use mathlib.Core.List.{List, [], _∷_, map, List·Memᴰ·head as here, List·M
 use Rattle.rules.specs.Lists.{_∈_}
 use Rattle.rules.specs.Line.{Row}
 use Rattle.rules.specs.Tree.{Tree, treeOf}
-use Rattle.rules.specs.Facts.{ContentFact, Facts, PositionFact, factsOf}
+use Rattle.rules.specs.Facts.{ContentFact, Facts, PositionFact, contentsOf, factsOf, positionsOf}
 use Rattle.rules.specs.Merge.{contentEdits, merge, merged, positionEdits}
 use Rattle.rules.specs.Demands.{Answers, Readable}
 use Rattle.trees.proofs.Sets.{map-sub}
 use Rattle.trees.proofs.Kept.{edit-from}
-use Rattle.trees.proofs.Disagreeing.{content-tells, contentsOf, position-tells, positionsOf}
+use Rattle.trees.proofs.Disagreeing.{content-tells, position-tells}
 use Rattle.trees.proofs.Answering.{Sound, answer-merged, answers-equal}
 use Rattle.trees.proofs.Accepting.{merged-answers}
 use Rattle.trees.proofs.Order.{merge-same}

@@ -3,15 +3,15 @@
 use mathlib.Core.Path.{_≡_, refl, sym, ap, subst}
 use mathlib.Core.Logic.{_⊎_, inl, inr}
 use mathlib.Core.Bool.{Bool, not, _&&_, _||_}
-use mathlib.Core.List.{List, [], _∷_, List·Memᴰ·not-nil}
+use mathlib.Core.List.{[], _∷_, List·Memᴰ·not-nil}
 use Prim.Native.Nat.{ℕ}
 use lib.Dec.{T, T-not, eqb, eqb→eq, eqb-refl}
 use mir.Facts.{and-yes, yes-and, or-yes, yes-eqb, eqb-no}
 use Rattle.rules.specs.Lists.{_∈_, any, put}
 use Rattle.rules.specs.Marks.{isRecord}
 use Rattle.rules.specs.Line.{Content, Row}
-use Rattle.rules.specs.Facts.{ContentFact, Facts, ParentGiven, PositionFact, contentsDisagree, neighboursDisagree, parentGiven}
-use Rattle.rules.specs.Facts.{parentsDiffer, parentsDisagree, parentsGiven, positionsDisagree, sameContent, sameContentFact, samePosition}
+use Rattle.rules.specs.Facts.{ContentFact, ParentGiven, PositionFact, contentsDisagree, neighboursDisagree, parentGiven, parentsDiffer}
+use Rattle.rules.specs.Facts.{parentsDisagree, parentsGiven, positionsDisagree, sameContent, sameContentFact, samePosition}
 use Rattle.trees.proofs.Lists.{any-in, any-out, cannot-fail, or-left, or-right, put-out}
 use Rattle.trees.proofs.Kept.{Tells}
 
@@ -31,12 +31,6 @@ afterOf a = a .after
 
 abbrev pub recordOf : ContentFact → ℕ
 recordOf a = a .number
-
-abbrev pub positionsOf : Facts → List PositionFact
-positionsOf t = t .positions
-
-abbrev pub contentsOf : Facts → List ContentFact
-contentsOf t = t .contents
 
 -- ---- equal facts
 

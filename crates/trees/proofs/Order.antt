@@ -15,17 +15,16 @@ use Rattle.rules.specs.Lists.{_∈_, any, flat, keep}
 use Rattle.rules.specs.Marks.{START, TOP}
 use Rattle.rules.specs.Line.{Content}
 use Rattle.rules.specs.Tree.{STEPS, Tree}
-use Rattle.rules.specs.Facts.{ContentFact, Facts, ParentGiven, PositionFact, contentsDisagree, disagreeing, edits, kept, lacking}
-use Rattle.rules.specs.Facts.{neighboursDisagree, parentsDiffer, parentsGiven, positionsDisagree, sameContentFact, samePosition}
-use Rattle.rules.specs.Facts.{treeContents, treePositions}
+use Rattle.rules.specs.Facts.{ContentFact, Facts, ParentGiven, PositionFact, contentsDisagree, contentsOf, disagreeing, edits, kept}
+use Rattle.rules.specs.Facts.{lacking, positionsOf, neighboursDisagree, parentsDiffer, parentsGiven, positionsDisagree, sameContentFact}
+use Rattle.rules.specs.Facts.{samePosition, treeContents, treePositions}
 use Rattle.rules.specs.Merge.{Result, brokenLists, contentClashes, contentEdits, contentIn, follower, goesOn, keptContents, keptPositions}
 use Rattle.rules.specs.Merge.{least, lostEdits, merge, merged, mergedTree, neighbourClashes, orEmpty, parentClashes, positionEdits}
 use Rattle.rules.specs.Merge.{refuse, refused, walk}
 use Rattle.trees.proofs.Lists.{any-in, any-out, keep-in, keep-out}
 use Rattle.trees.proofs.Sets.{Sub, first-same, flat-sub, map-sub}
 use Rattle.trees.proofs.Kept.{Coherent, kept-coherent, none-coherent}
-use Rattle.trees.proofs.Disagreeing.{afterOf, content-flip, content-tells, contentsOf, one-after, one-content, parentOf}
-use Rattle.trees.proofs.Disagreeing.{positionsOf, recordOf}
+use Rattle.trees.proofs.Disagreeing.{afterOf, content-flip, content-tells, one-after, one-content, parentOf, recordOf}
 use Rattle.trees.proofs.Walk.{goes-on-out}
 use Rattle.trees.proofs.Answering.{Sound}
 use Rattle.trees.proofs.Accepting.{kept-positions-coherent}

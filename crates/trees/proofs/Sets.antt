@@ -11,8 +11,7 @@ use native.Mathlib.Omega.{arith}
 use lib.ListN.{length}
 use lib.Dec.{T, not-T, eqb, eqb→eq}
 use mir.Facts.{eqb-no}
-use Rattle.rules.specs.Lists.{NoneTwice, _∈_, flat, keep, put}
-use Rattle.rules.specs.Merge.{first}
+use Rattle.rules.specs.Lists.{NoneTwice, _∈_, first, flat, keep, put}
 use Rattle.trees.proofs.Lists.{flat-in, flat-out, keep-all, keep-in, keep-none, keep-out}
 
 -- ---- none twice

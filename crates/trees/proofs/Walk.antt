@@ -12,13 +12,13 @@ use native.Mathlib.Omega.{arith}
 use lib.ListN.{length, length-append}
 use lib.Dec.{T, eqb, eqb→eq, eqb-refl}
 use mir.Facts.{and-yes, yes-and}
-use Rattle.rules.specs.Lists.{_∈_, keep}
+use Rattle.rules.specs.Lists.{_∈_, first, keep}
 use Rattle.rules.specs.Marks.{END, START, isRecord}
 use Rattle.rules.specs.Line.{Content}
 use Rattle.rules.specs.Tree.{Tree, empty, node, numbersIn}
 use Rattle.rules.specs.Facts.{ContentFact, PositionFact, contentFact, contentsDisagree, position, positionsDisagree, treeContents}
 use Rattle.rules.specs.Facts.{treePositions}
-use Rattle.rules.specs.Merge.{contentIn, first, follower, goesOn, onward, orEmpty, walk}
+use Rattle.rules.specs.Merge.{contentIn, follower, goesOn, onward, orEmpty, walk}
 use Rattle.trees.proofs.Lists.{keep-in, keep-none, keep-out}
 use Rattle.trees.proofs.Sets.{first-is}
 use Rattle.trees.proofs.Kept.{Coherent}
