@@ -1,4 +1,13 @@
--- Document 01 as definitions that compute, in its order: what a reader of Brooksaddle must believe.
+-- Document 01 as definitions that compute: what a reader of Brooksaddle must believe. Its sections stand here:
+--     The table as text             Limits, Text, Line, Table, Tree, Written
+--     Calls and what comes back     Codes, Calls, Promises
+--     Facts and edits               Marks, Facts, Merge
+--     The ledger                    Ledger
+--     Demonstration                 `shown` in Calls; its example in proofs/Examples
+--     Lettered trees                proofs/Lettered
+--     Slips to rule out             must-fail/
+--     Promises                      Promises, proofs/Settled
+-- and what the three demands speak of stands in Demands. Lists and Quoted are words that the others use.
 pub mod Limits
 pub mod Codes
 pub mod Lists

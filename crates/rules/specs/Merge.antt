@@ -16,20 +16,24 @@ use Rattle.rules.specs.Facts.{positionsDisagree, lacking, edits, kept, d
 
 -- ---- the walk
 
--- the record to which a fact goes on from p under r
+-- under r, the fact goes on from p to a record
 abbrev pub goesOn : ℕ → ℕ → PositionFact → Bool
 goesOn r p a = eqb (a .parent) r && (eqb (a .before) p && isRecord (a .after))
 
+-- whom the facts give as the next after p under r, if anyone
 unfoldable pub follower : List PositionFact → ℕ → ℕ → Option ℕ
 follower facts r p = first (map (λ (a : PositionFact). a .after) (keep (goesOn r p) facts))
 
+-- the content, or nothing where none is given
 abbrev pub orEmpty : Option Content → Content
 orEmpty none = []
 orEmpty (some c) = c
 
+-- the content that the facts give a record
 unfoldable pub contentIn : List ContentFact → ℕ → Content
 contentIn facts n = orEmpty (first (map (λ (a : ContentFact). a .content) (keep (λ (a : ContentFact). eqb (a .number) n) facts)))
 
+-- the tree from the next record on; none, where the list stops
 abbrev pub onward : Option ℕ → (ℕ → Tree) → Tree
 onward none tree = empty
 onward (some n) tree = tree n
@@ -47,6 +51,7 @@ pub data Result : Type 0 where
   refused : ℕ → ℕ → Result
   merged : Tree → Result
 
+-- the least of some places
 abbrev pub least : ℕ → List ℕ → ℕ
 least place [] = place
 least place (other ∷ others) = least (min place other) others

@@ -32,16 +32,17 @@ childrenOf r t = keep (λ (x : Row). eqb (x .parent) r) t
 abbrev pub childNumbers : ℕ → List Row → List ℕ
 childNumbers r t = numbers (childrenOf r t)
 
--- no way through a tree is longer: more steps than there are numbers
+-- more steps than there are numbers, so that no way through a tree is longer
 abbrev pub STEPS : ℕ
 STEPS = 65536
 
--- these rows of t as records of one list, each with all below it
+-- these rows of t as records of one list, each with all below it, as far as k steps go
 unfoldable pub hang : ℕ → List Row → List Row → Tree
 hang zero t list = empty
 hang (suc k) t [] = empty
 hang (suc k) t (x ∷ list) = node (x .number) (x .content) (hang k t (childrenOf (x .number) t)) (hang k t list)
 
+-- the tree whose first list is the top's
 unfoldable pub treeOf : List Row → Tree
 treeOf t = hang STEPS t (childrenOf TOP t)
 
