@@ -25,14 +25,14 @@ abbrev pub Coded : Outcome → Type 0
 Coded (notRead table code line) = code ≡ accepted → ⊥
 Coded (clash code place) = code ≡ accepted → ⊥
 Coded tooLarge = Unit {0}
-Coded (noRoom code long ledgerLong) = code ≡ accepted → ⊥
+Coded (noRoom code tableLength ledgerLength) = code ≡ accepted → ⊥
 Coded (done table es) = Unit {0}
 
 pub zero-done : (end : Outcome) → Coded end → answerOf end .code ≡ accepted → (table : List ℕ) × (es : List Entry) × (end ≡ done table es)
 zero-done (notRead table code line) c e = absurd (c e)
 zero-done (clash code place) c e = absurd (c e)
 zero-done tooLarge c e = absurd (omega (arith, e))
-zero-done (noRoom code long ledgerLong) c e = absurd (c e)
+zero-done (noRoom code tableLength ledgerLength) c e = absurd (c e)
 zero-done (done table es) c e = (table, es, refl)
 
 -- ---- of tables

@@ -41,7 +41,7 @@ outcome-leaves : (end : Outcome) (table ledger : List ℕ) → (answerOf end .co
 outcome-leaves (notRead t code line) table ledger h = (refl, refl)
 outcome-leaves (clash code place) table ledger h = (refl, refl)
 outcome-leaves tooLarge table ledger h = (refl, refl)
-outcome-leaves (noRoom code long ledgerLong) table ledger h = (refl, refl)
+outcome-leaves (noRoom code tableLength ledgerLength) table ledger h = (refl, refl)
 outcome-leaves (done bytes es) table ledger h = absurd (h refl)
 
 pub merge-refused : (old first second table ledger : List ℕ) (answer : Merged) (table′ ledger′ : List ℕ)

@@ -16,6 +16,7 @@ use Rattle.rules.specs.Ledger.{Entry, entriesOf}
 use Rattle.rules.specs.Calls.{Outcome, done, packed, judged, mergeTables, mergeTexts}
 use Rattle.rules.specs.Demands.{Readable, Writable, Within, Answers, Tables, Answered, tradedOutcome}
 use Rattle.rules.proofs.Origins.{entries-trade}
+use Rattle.trees.proofs.OneTable.{content-row}
 use Rattle.trees.proofs.Trees.{contents-rows}
 use Rattle.trees.proofs.Demand3 as facts
 use Rattle.readback.proofs.Following.{good-readable, good-writable}
@@ -31,10 +32,9 @@ module _ (old : List ℕ) (branches : List (List ℕ)) (o : List Row) (bs : List
   -- ---- the contents of an answer are contents of the tables, so a line may hold them
 
   fact-writable : (t : List Row) → t ∈ o ∷ bs → (a : ContentFact) → a ∈ factsOf t .contents → Writable (a .content)
-  unfolding factsOf
   fact-writable t m a i =
       let w = table-text old branches o bs read t m in
-      let x = Memᴰ·of-map contentOf t i in
+      let x = content-row t a i in
       subst (λ (b : ContentFact). Writable (b .content)) (x .2) (good-writable t (good (w .0) t (w .1)) (x .0) (x .1))
 
   answer-writable : (f : Tree) → Answers (factsOf o) (map factsOf bs) f → (x : Row) → x ∈ rows TOP f → Writable (x .content)

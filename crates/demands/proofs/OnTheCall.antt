@@ -1,6 +1,6 @@
 -- The three demands on a call of merge that keeps its promise, `Merges`: here a visitor begins. `old`, `first` and `second` are the texts
 -- handed in, `table` and `ledger` the lent buffers before the call; a name with a prime is a buffer after it. Assumes nothing.
-use mathlib.Core.Path.{_≡_, sym, ap, _∙_}
+use mathlib.Core.Path.{_≡_, refl, sym, ap, _∙_}
 use mathlib.Core.Logic.{_↔_}
 use mathlib.Core.List.{List, [], _∷_}
 use Prim.Native.Nat.{ℕ}
@@ -9,7 +9,7 @@ use lib.Seq.{take-append-seam}
 use Rattle.rules.specs.Codes.{accepted}
 use Rattle.rules.specs.Marks.{TOP}
 use Rattle.rules.specs.Line.{Row}
-use Rattle.rules.specs.Table.{readable, verdict}
+use Rattle.rules.specs.Table.{Verdict, readable, unreadable, verdict}
 use Rattle.rules.specs.Tree.{Tree, rows, treeOf}
 use Rattle.rules.specs.Written.{writtenTree, over}
 use Rattle.rules.specs.Ledger.{Entry, entriesOf, ledger as ledgerOf}
@@ -17,7 +17,7 @@ use Rattle.rules.specs.Calls.{Outcome, done, mergeOutcome, answerOf, told, tabl
 use Rattle.rules.specs.Promises.{Merges}
 use Rattle.rules.specs.Demands.{Within, Tables, Answered, tradedOutcome}
 use Rattle.rules.specs.declared.answers.Merged.{Merged}
-use Rattle.demands.proofs.Reading.{done-read}
+use Rattle.demands.proofs.Reading.{old-unread, branch-unread, done-read}
 use Rattle.demands.proofs.Coded.{texts-coded, zero-done}
 use Rattle.demands.proofs.Swapping.{traded-answer, traded-table}
 use Rattle.demands.proofs.Demand1.{merge-refused}
@@ -51,6 +51,23 @@ module _ (old first second table ledger : List ℕ) (answer : Merged) (table′ 
 
   pub demand1 : (answer .code ≡ accepted → ⊥) → (table′ ≡ table) × (ledger′ ≡ ledger)
   demand1 = merge-refused old first second table ledger answer table′ ledger′ call
+
+  -- "An unreadable table is refused with table, line and fault": the first of old, first and second
+
+  pub demand1-old : (code line : ℕ) → verdict old ≡ unreadable code line → answer ≡ told code 1 line 0 0
+  demand1-old code line u = call .answered ∙ ap answerOf (old-unread old branches (length table) (length ledger) code line u)
+
+  pub demand1-first : (o : List Row) (code line : ℕ) → verdict old ≡ readable o → verdict first ≡ unreadable code line
+      → answer ≡ told code 2 line 0 0
+  demand1-first o code line p u =
+      call .answered ∙ ap answerOf (branch-unread old o p [] [] refl first code line u (second ∷ []) (length table) (length ledger))
+
+  pub demand1-second : (o f : List Row) (code line : ℕ) → verdict old ≡ readable o → verdict first ≡ readable f
+      → verdict second ≡ unreadable code line → answer ≡ told code 3 line 0 0
+  demand1-second o f code line p q u =
+      call .answered
+      ∙ ap answerOf (branch-unread old o p (first ∷ []) (f ∷ []) (ap (λ (v : Verdict). v ∷ []) q) second code line u []
+      (length table) (length ledger))
 
   -- ---- demand 2: what is written is document 01's, and reads back as the same tree
 

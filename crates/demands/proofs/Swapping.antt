@@ -85,7 +85,7 @@ pub traded-answer : (end : Outcome) → answerOf (tradedOutcome end) ≡ answerO
 traded-answer (notRead table code line) = refl
 traded-answer (clash code place) = refl
 traded-answer tooLarge = refl
-traded-answer (noRoom code long ledgerLong) = refl
+traded-answer (noRoom code tableLength ledgerLength) = refl
 traded-answer (done table es) = ap (told 0 0 0 (length table)) (ledger-length es)
 
 -- and so is the table
@@ -93,5 +93,5 @@ pub traded-table : (end : Outcome) (buffer : List ℕ) → tableAfter (tradedOut
 traded-table (notRead table code line) buffer = refl
 traded-table (clash code place) buffer = refl
 traded-table tooLarge buffer = refl
-traded-table (noRoom code long ledgerLong) buffer = refl
+traded-table (noRoom code tableLength ledgerLength) buffer = refl
 traded-table (done table es) buffer = refl

@@ -1,4 +1,5 @@
--- The calls: for each, the answer and every lent buffer afterwards, as functions of what was handed in. Assumes nothing.
+-- The calls: for each, the answer and every lent buffer afterwards, as functions of what was handed in. t is a table, f the merged tree,
+-- es are the ledger's entries. Assumes nothing.
 use mathlib.Core.Bool.{Bool, cond, _||_}
 use mathlib.Core.List.{List, [], _∷_, _++_, map}
 use Prim.Native.Nat.{ℕ, suc, _+_, _-_}
@@ -33,7 +34,7 @@ checkAnswer text = checked (verdict text)
 -- ---- tidy: "the written form in a lent buffer; code, line, length"
 
 abbrev pub tidyTold : ℕ → ℕ → ℕ → Tidied
-tidyTold code line long = record { code = code; line = line; length = long }
+tidyTold code line tableLength = record { code = code; line = line; length = tableLength }
 
 -- "on 31 its length is the one needed"
 abbrev pub tidyOf : Verdict → ℕ → Tidied
@@ -124,14 +125,14 @@ mergeTexts old branches tableRoom ledgerRoom =
 
 -- the five numbers of each outcome: "Lengths are 0 on refusal, but 31 and 32 give both lengths needed."
 abbrev pub told : ℕ → ℕ → ℕ → ℕ → ℕ → Merged
-told code table place long ledgerLong =
-    record { code = code; table = table; place = place; «table_length» = long; «ledger_length» = ledgerLong }
+told code table place tableLength ledgerLength =
+    record { code = code; table = table; place = place; «table_length» = tableLength; «ledger_length» = ledgerLength }
 
 abbrev pub answerOf : Outcome → Merged
 answerOf (notRead table code line) = told code table line 0 0
 answerOf (clash code place) = told code 0 place 0 0
 answerOf tooLarge = told mergedTooLarge 0 0 0 0
-answerOf (noRoom code long ledgerLong) = told code 0 0 long ledgerLong
+answerOf (noRoom code tableLength ledgerLength) = told code 0 0 tableLength ledgerLength
 answerOf (done table es) = told accepted 0 0 (length table) (length (ledger es))
 
 -- "Refused calls change neither buffer."
@@ -139,14 +140,14 @@ abbrev pub tableAfter : Outcome → List ℕ → List ℕ
 tableAfter (notRead table code line) buffer = buffer
 tableAfter (clash code place) buffer = buffer
 tableAfter tooLarge buffer = buffer
-tableAfter (noRoom code long ledgerLong) buffer = buffer
+tableAfter (noRoom code tableLength ledgerLength) buffer = buffer
 tableAfter (done table es) buffer = over table buffer
 
 abbrev pub ledgerAfter : Outcome → List ℕ → List ℕ
 ledgerAfter (notRead table code line) buffer = buffer
 ledgerAfter (clash code place) buffer = buffer
 ledgerAfter tooLarge buffer = buffer
-ledgerAfter (noRoom code long ledgerLong) buffer = buffer
+ledgerAfter (noRoom code tableLength ledgerLength) buffer = buffer
 ledgerAfter (done table es) buffer = over (ledger es) buffer
 
 -- the call: old, first, second and the two lent buffers
@@ -165,5 +166,5 @@ abbrev pub shown : Outcome → List ℕ
 shown (notRead table code line) = fiveNumbers (answerOf (notRead table code line))
 shown (clash code place) = fiveNumbers (answerOf (clash code place))
 shown tooLarge = fiveNumbers (answerOf tooLarge)
-shown (noRoom code long ledgerLong) = fiveNumbers (answerOf (noRoom code long ledgerLong))
+shown (noRoom code tableLength ledgerLength) = fiveNumbers (answerOf (noRoom code tableLength ledgerLength))
 shown (done table es) = fiveNumbers (answerOf (done table es)) ++ (table ++ ledger es)

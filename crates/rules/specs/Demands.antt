@@ -87,7 +87,7 @@ abbrev pub tradedOutcome : Outcome → Outcome
 tradedOutcome (notRead table code line) = notRead table code line
 tradedOutcome (clash code place) = clash code place
 tradedOutcome tooLarge = tooLarge
-tradedOutcome (noRoom code long ledgerLong) = noRoom code long ledgerLong
+tradedOutcome (noRoom code tableLength ledgerLength) = noRoom code tableLength ledgerLength
 tradedOutcome (done table es) = done table (map tradedEntry es)
 
 -- ---- demand 3 on texts

@@ -129,7 +129,7 @@ module _ {A : Type 0} (same : A → A → Bool) where
 module _ {A : Type 0} (disagree : A → A → Bool) where
   -- "all edits, with every old fact that disagrees with no edit"
   abbrev pub kept : List A → List A → List A
-  kept es old = es ++ keep (λ (x : A). not (any (disagree x) es)) old
+  kept edited old = edited ++ keep (λ (x : A). not (any (disagree x) edited)) old
 
   -- those that disagree with another of them
   abbrev pub disagreeing : List A → List A

@@ -1,6 +1,5 @@
--- The ledger: where each merged record's content came from. `old` and `branches` are the facts of the tables, or the
--- tables, x a merged row.
--- Assumes nothing.
+-- The ledger: where each merged record's content came from. `old` and `branches` are the tables or their facts, x is a merged row, es
+-- are the ledger's entries. Assumes nothing.
 use mathlib.Core.Bool.{Bool, cond}
 use mathlib.Core.List.{List, [], _∷_, _++_, map}
 use Prim.Native.Nat.{ℕ, suc}

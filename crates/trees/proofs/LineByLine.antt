@@ -11,6 +11,7 @@ use Prim.Native.Nat.{ℕ}
 use lib.Dec.{T, eqb, eqb-refl, eqb→eq}
 use Rattle.rules.specs.Lists.{_∈_}
 use Rattle.rules.specs.Marks.{END, START, TOP}
+use Rattle.rules.specs.Text.{last}
 use Rattle.rules.specs.Line.{Row}
 use Rattle.rules.specs.Table.{numbers}
 use Rattle.rules.specs.Tree.{childNumbers}
@@ -23,14 +24,9 @@ use Rattle.trees.proofs.Trees.{children-append}
 
 -- ---- as a reader meets them
 
--- the last of a list, or p
-abbrev pub lastOr : ℕ → List ℕ → ℕ
-lastOr p [] = p
-lastOr p (n ∷ ns) = lastOr n ns
-
 -- the position fact of the line y, after the lines `seen`
 unfoldable pub lineFact : List Row → Row → PositionFact
-lineFact seen y = position (y .parent) (lastOr START (childNumbers (y .parent) seen)) (y .number)
+lineFact seen y = position (y .parent) (last START (childNumbers (y .parent) seen)) (y .number)
 
 -- the position facts of lines, after the lines `seen`
 abbrev pub incoming : List Row → List Row → List PositionFact
@@ -39,7 +35,7 @@ incoming seen (y ∷ t) = lineFact seen y ∷ incoming (seen ++ (y ∷ [])) t
 
 -- the position fact that closes the list of r
 abbrev pub closingFact : List Row → ℕ → PositionFact
-closingFact t r = position r (lastOr START (childNumbers r t)) END
+closingFact t r = position r (last START (childNumbers r t)) END
 
 abbrev pub closing : List Row → List PositionFact
 closing t = map (closingFact t) (TOP ∷ numbers t)
@@ -50,11 +46,11 @@ abbrev pub openFacts : ℕ → ℕ → List ℕ → List PositionFact
 openFacts r p [] = []
 openFacts r p (n ∷ ns) = position r p n ∷ openFacts r n ns
 
-pub list-closed : (r p : ℕ) (ns : List ℕ) → listFacts r p ns ≡ openFacts r p ns ++ (position r (lastOr p ns) END ∷ [])
+pub list-closed : (r p : ℕ) (ns : List ℕ) → listFacts r p ns ≡ openFacts r p ns ++ (position r (last p ns) END ∷ [])
 list-closed r p [] = refl
 list-closed r p (n ∷ ns) = ap (λ (l : List PositionFact). position r p n ∷ l) (list-closed r n ns)
 
-open-more : (r p n : ℕ) (ns : List ℕ) → openFacts r p (ns ++ (n ∷ [])) ≡ openFacts r p ns ++ (position r (lastOr p ns) n ∷ [])
+open-more : (r p n : ℕ) (ns : List ℕ) → openFacts r p (ns ++ (n ∷ [])) ≡ openFacts r p ns ++ (position r (last p ns) n ∷ [])
 open-more r p n [] = refl
 open-more r p n (m ∷ ns) = ap (λ (l : List PositionFact). position r p m ∷ l) (open-more r m n ns)
 
@@ -105,15 +101,15 @@ module _ (seen : List Row) (y : Row) (a : PositionFact) where
   pub line-out : Open (seen ++ (y ∷ [])) a → Open seen a ⊎ (a ≡ lineFact seen y)
   line-out m = go (either (eqb (y .parent) (a .parent)))
     where
-      last : Open seen a ⊎ (a ∈ lineFact seen y ∷ []) → Open seen a ⊎ (a ≡ lineFact seen y)
-      last (inl k) = inl k
-      last (inr k) = inr (List·Memᴰ·eq-of-singleton k)
+      this-line : Open seen a ⊎ (a ∈ lineFact seen y ∷ []) → Open seen a ⊎ (a ≡ lineFact seen y)
+      this-line (inl k) = inl k
+      this-line (inr k) = inr (List·Memᴰ·eq-of-singleton k)
 
       go : Mine → Open seen a ⊎ (a ≡ lineFact seen y)
       go (inr t) = inl (subst (λ (l : List PositionFact). a ∈ l) (open-no seen y (a .parent) t) m)
       go (inl t) =
           let e = open-yes seen y (a .parent) (eqb→eq (y .parent) (a .parent) t) in
-          last (List·Memᴰ·append-cases (before seen y (a .parent)) (subst (λ (l : List PositionFact). a ∈ l) e m))
+          this-line (List·Memᴰ·append-cases (before seen y (a .parent)) (subst (λ (l : List PositionFact). a ∈ l) e m))
 
   line-old : Open seen a → Open (seen ++ (y ∷ [])) a
   line-old m = go (either (eqb (y .parent) (a .parent)))
@@ -151,12 +147,12 @@ lines-out seen [] a m = inl (subst (λ (l : List Row). Open l a) (append-nil see
 lines-out seen (y ∷ t) a m =
     go (lines-out (seen ++ (y ∷ [])) t a (subst (λ (l : List Row). Open l a) (sym (append-assoc seen (y ∷ []) t)) m))
   where
-    last : Open seen a ⊎ (a ≡ lineFact seen y) → Open seen a ⊎ (a ∈ incoming seen (y ∷ t))
-    last (inl k) = inl k
-    last (inr e) = inr (here e)
+    this-line : Open seen a ⊎ (a ≡ lineFact seen y) → Open seen a ⊎ (a ∈ incoming seen (y ∷ t))
+    this-line (inl k) = inl k
+    this-line (inr e) = inr (here e)
 
     go : Open (seen ++ (y ∷ [])) a ⊎ (a ∈ incoming (seen ++ (y ∷ [])) t) → Open seen a ⊎ (a ∈ incoming seen (y ∷ t))
-    go (inl k) = last (line-out seen y a k)
+    go (inl k) = this-line (line-out seen y a k)
     go (inr k) = inr (there k)
 
 incoming-row : (seen t : List Row) (a : PositionFact) → a ∈ incoming seen t → (y : Row) × (y ∈ t) × (a .parent ≡ y .parent)

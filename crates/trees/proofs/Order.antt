@@ -48,14 +48,16 @@ module _ {A : Type 0} where
       let w = keep-out (λ (a : A). not (any (same a) ys)) xs m in
       keep-in (λ (a : A). not (any (same a) ys′)) (h x (w .0)) (none-sub (same x) ys′ ys g (w .1))
 
-  kept-sub : (disagree : A → A → Bool) (es es′ old : List A) → Sub es es′ → Sub es′ es → Sub (kept disagree es old) (kept disagree es′ old)
-  kept-sub disagree es es′ old h g x m = go (List·Memᴰ·append-cases es m)
+  kept-sub : (disagree : A → A → Bool) (edited edited′ old : List A)
+      → Sub edited edited′ → Sub edited′ edited → Sub (kept disagree edited old) (kept disagree edited′ old)
+  kept-sub disagree edited edited′ old h g x m = go (List·Memᴰ·append-cases edited m)
     where
-      go : (x ∈ es) ⊎ (x ∈ keep (λ (a : A). not (any (disagree a) es)) old) → x ∈ kept disagree es′ old
-      go (inl k) = Memᴰ·append-left (keep (λ (a : A). not (any (disagree a) es′)) old) (h x k)
+      go : (x ∈ edited) ⊎ (x ∈ keep (λ (a : A). not (any (disagree a) edited)) old) → x ∈ kept disagree edited′ old
+      go (inl k) = Memᴰ·append-left (keep (λ (a : A). not (any (disagree a) edited′)) old) (h x k)
       go (inr k) =
-          let w = keep-out (λ (a : A). not (any (disagree a) es)) old k in
-          Memᴰ·append-right es′ (keep-in (λ (a : A). not (any (disagree a) es′)) (w .0) (none-sub (disagree x) es′ es g (w .1)))
+          let w = keep-out (λ (a : A). not (any (disagree a) edited)) old k in
+          Memᴰ·append-right edited′
+          (keep-in (λ (a : A). not (any (disagree a) edited′)) (w .0) (none-sub (disagree x) edited′ edited g (w .1)))
 
   append-sub : (xs ys xs′ ys′ : List A) → Sub xs xs′ → Sub ys ys′ → Sub (xs ++ ys) (xs′ ++ ys′)
   append-sub xs ys xs′ ys′ h g x m =
