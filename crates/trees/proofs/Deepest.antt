@@ -76,7 +76,7 @@ greatest-below above (y ∷ rest) once k h =
 
 -- ---- in a tree, where each record's depth is one more than its parent's
 
-abbrev OneMore : (ℕ → ℕ) → List Row → Type 0
+abbrev pub OneMore : (ℕ → ℕ) → List Row → Type 0
 OneMore d t = (x : Row) → x ∈ t → d (x .number) ≡ suc (d (x .parent))
 
 module _ (d : ℕ → ℕ) where
@@ -102,27 +102,39 @@ module _ (d : ℕ → ℕ) where
 
 -- ---- both
 
--- the greatest depth of the lines is the tree's height
-pub deepest : (t : List Row) → Readable t → greatestDepth t ≡ height (treeOf t)
-deepest t h =
-    let p = greatest-below [] t (h .distinct .once) (height (treeOf t)) (λ x m.
-    omega (arith, top, height-above d TOP (treeOf t) tree-depth x (rows-have t h x m))) in
-    let q = height-below d TOP (treeOf t) tree-depth (greatestDepth t) (omega (arith, top)) (λ x m.
-    greatest-above [] t (h .distinct .once) x (rows-in t h x m)) in
-    omega (arith, top)
-  where
-    d : ℕ → ℕ
-    d n = depth (reverseAux t []) n
+module _ (t : List Row) (h : Readable t) where
+  -- the depth of a record, by all lines
+  abbrev pub depthIn : ℕ → ℕ
+  depthIn n = depth (reverseAux t []) n
 
-    no-top : TOP ∈ numbers t → ⊥
-    no-top m = let w = Memᴰ·of-map numberOf t m in subst (λ (n : ℕ). T (isRecord n)) (w .2) (h .distinct .valid (w .0) (w .1))
+  no-top : TOP ∈ numbers t → ⊥
+  no-top m = let w = Memᴰ·of-map numberOf t m in subst (λ (n : ℕ). T (isRecord n)) (w .2) (h .distinct .valid (w .0) (w .1))
 
-    top : d TOP ≡ 0
-    top = depth-settled [] t TOP no-top
+  pub depth-top : depthIn TOP ≡ 0
+  depth-top = depth-settled [] t TOP no-top
 
-    apart : (n : ℕ) → n ∈ TOP ∷ [] → n ∈ numbers t → ⊥
-    apart n (here e) k = no-top (Memᴰ·cast (sym e) k)
-    apart n (there m) k = List·Memᴰ·not-nil m
+  pub depth-one : OneMore depthIn t
+  depth-one = depth-row [] t (h .distinct .once) apart (h .rooted)
+    where
+      apart : (n : ℕ) → n ∈ TOP ∷ [] → n ∈ numbers t → ⊥
+      apart n (here e) k = no-top (Memᴰ·cast (sym e) k)
+      apart n (there m) k = List·Memᴰ·not-nil m
 
-    tree-depth : OneMore d (rows TOP (treeOf t))
-    tree-depth x m = depth-row [] t (h .distinct .once) apart (h .rooted) x (rows-in t h x m)
+  -- the greatest depth is the least that is no less than each
+  pub greatest-each : (x : Row) → x ∈ t → depthIn (x .number) ≤ greatestDepth t
+  greatest-each = greatest-above [] t (h .distinct .once)
+
+  pub greatest-least : (k : ℕ) → ((x : Row) → x ∈ t → depthIn (x .number) ≤ k) → greatestDepth t ≤ k
+  greatest-least = greatest-below [] t (h .distinct .once)
+
+  -- the greatest depth of the lines is the tree's height
+  pub deepest : greatestDepth t ≡ height (treeOf t)
+  deepest =
+      let p = greatest-least (height (treeOf t)) (λ x m.
+      omega (arith, depth-top, height-above depthIn TOP (treeOf t) tree-depth x (rows-have t h x m))) in
+      let q = height-below depthIn TOP (treeOf t) tree-depth (greatestDepth t) (omega (arith, depth-top)) (λ x m.
+      greatest-each x (rows-in t h x m)) in
+      omega (arith, depth-top)
+    where
+      tree-depth : OneMore depthIn (rows TOP (treeOf t))
+      tree-depth x m = depth-one x (rows-in t h x m)

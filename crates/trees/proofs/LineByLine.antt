@@ -65,13 +65,13 @@ Open t a = a ∈ openFacts (a .parent) START (childNumbers (a .parent) t)
 
 -- ---- one line more
 
-children-more : (seen : List Row) (y : Row)
+pub children-more : (seen : List Row) (y : Row)
     → childNumbers (y .parent) (seen ++ (y ∷ [])) ≡ childNumbers (y .parent) seen ++ (y .number ∷ [])
 children-more seen y =
     children-append (y .parent) seen (y ∷ [])
     ∙ ap (λ (l : List Row). childNumbers (y .parent) seen ++ numbers l) (put-yes (eqb (y .parent) (y .parent)) y [] (eqb-refl (y .parent)))
 
-children-same : (seen : List Row) (y : Row) (r : ℕ) → T (not (eqb (y .parent) r))
+pub children-same : (seen : List Row) (y : Row) (r : ℕ) → T (not (eqb (y .parent) r))
     → childNumbers r (seen ++ (y ∷ [])) ≡ childNumbers r seen
 children-same seen y r t =
     children-append r seen (y ∷ [])

@@ -1,0 +1,2 @@
+-- Depth by climbing.
+pub mod Climbing

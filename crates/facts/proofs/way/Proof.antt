@@ -1,0 +1,17 @@
+-- The proof of `way`: what is left to prove is found among the laws of Storing. Assumes nothing.
+use Rattle.facts.proofs.Storing.{stores}
+use Rattle.facts.proofs.way.Statement.{statement}
+use Rattle.facts.proofs.way.Tie as tie
+use Rattle.facts.proofs.way.Reads as reads
+use Rattle.facts.proofs.way.Lts as lts
+
+-- src/lib.rt:229:9
+returns : tie.Need-returns
+returns c = search stores
+
+-- src/lib.rt:224:1
+returns-2 : tie.Need-returns-2
+returns-2 c = search stores
+
+pub way-spec : {M : Type 1} → statement M
+way-spec = tie.close (tie.spec returns returns-2)

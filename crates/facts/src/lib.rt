@@ -1,0 +1,275 @@
+// One table in memory, in two flat arrays that are lent: `lines` gives a number its line, `facts` gives a line its eight fields.
+// Line 0 is the top's, so the top is read like a record. Each question takes a fixed number of loads, and one line more a fixed number
+// of loads and stores. n is a record, r a parent, p the one before, s the one after, l a line, k a field.
+use rules::record::Record;
+ghost use mathlib.Core.Path.{_≡_};
+ghost use mathlib.Core.List.{[], _∷_};
+ghost use Prim.Native.Nat.{_+_, _*_, _<_};
+ghost use lib.ListN.{getD, length};
+ghost use Rattle.facts.specs.Memory.{NUMBERS, ROOM, WIDTH, NUMBER, PARENT, FORERUNNER, FOLLOWER, FIRST, LAST, PLACE, LENGTH};
+ghost use Rattle.facts.specs.Memory.{lineAt, field, who, way, laid, putField, addLine, addFacts, opened};
+ghost use Rattle.facts.specs.Asked.{hasIn, listIn, childIn, asked};
+
+// ---- the shape
+
+// a line is kept for each of so many numbers
+pub const NUMBERS: usize = 65536;
+
+// there is room for so many lines
+pub const ROOM: usize = 1025;
+
+// a line has so many fields
+pub const WIDTH: usize = 8;
+
+// so many fields in all
+pub const FACTS: usize = 8200;
+
+// the fields of a line; the last two say where its content starts in its text, and how long it is
+pub const NUMBER: usize = 0;
+
+pub const PARENT: usize = 1;
+
+pub const FORERUNNER: usize = 2;
+
+pub const FOLLOWER: usize = 3;
+
+pub const FIRST: usize = 4;
+
+pub const LAST: usize = 5;
+
+pub const PLACE: usize = 6;
+
+pub const LENGTH: usize = 7;
+
+// These two tie the constants to the definitions of the same names.
+pub fn shape() -> [usize; 4]
+    ensures { λ r. ⌜ r ≡ NUMBERS ∷ ROOM ∷ WIDTH ∷ (ROOM * WIDTH) ∷ [] ⌝ }
+{
+    [NUMBERS, ROOM, WIDTH, FACTS]
+}
+
+pub fn fields() -> [usize; 8]
+    ensures { λ r. ⌜ r ≡ NUMBER ∷ PARENT ∷ FORERUNNER ∷ FOLLOWER ∷ FIRST ∷ LAST ∷ PLACE ∷ LENGTH ∷ [] ⌝ }
+{
+    [
+        NUMBER,
+        PARENT,
+        FORERUNNER,
+        FOLLOWER,
+        FIRST,
+        LAST,
+        PLACE,
+        LENGTH,
+    ]
+}
+
+// A number of 16 bits as a place, with the bound that its type says.
+pub fn wide(x: u16) -> usize
+    ensures { λ r. ⌜ (r ≡ x) × (r < 65536) ⌝ }
+{
+    x as usize
+}
+
+// What the type of a lent array says of its length. Neither does anything when it runs.
+pub fn column(lines: &[u16; NUMBERS])
+    ensures { λ r. ⌜ length (now (lines .entry)) ≡ NUMBERS ⌝ }
+{
+    let s = &lines[..];
+}
+
+pub fn width(facts: &[u32; FACTS])
+    ensures { λ r. ⌜ length (now (facts .entry)) ≡ ROOM * WIDTH ⌝ }
+{
+    let s = &facts[..];
+}
+
+// ---- what is read
+
+// the line of a number; 0 for the top, and for a number that is absent
+pub fn line_of(lines: &[u16; NUMBERS], n: u32) -> usize
+    ensures { λ r. ⌜ r ≡ lineAt (now (lines .entry)) n ⌝ }
+    ensures { λ r. ⌜ r < ROOM ⌝ }
+{
+    column(lines);
+    let i = n as usize;
+    if i < NUMBERS {
+        let l = wide(lines[i]);
+        if l < ROOM {
+            return l;
+        }
+    }
+    0
+}
+
+// a field of a record's line
+pub fn field(lines: &[u16; NUMBERS], facts: &[u32; FACTS], n: u32, k: usize) -> u32
+    requires { ⌜ k < WIDTH ⌝ }
+    ensures { λ r. ⌜ r ≡ field (now (lines .entry)) (now (facts .entry)) n k ⌝ }
+{
+    let l = line_of(lines, n);
+    facts[l * WIDTH + k]
+}
+
+// the number on a line
+pub fn number_on(facts: &[u32; FACTS], l: usize) -> u32
+    requires { ⌜ l < ROOM ⌝ }
+    ensures { λ r. ⌜ r ≡ getD (now (facts .entry)) (l * WIDTH + NUMBER) 0 ⌝ }
+{
+    facts[l * WIDTH + NUMBER]
+}
+
+// ---- the questions
+
+// whether the record is there
+pub fn has(lines: &[u16; NUMBERS], n: u32) -> bool
+    ensures { λ z. ⌜ z ≡ hasIn (now (lines .entry)) n ⌝ }
+{
+    let l = line_of(lines, n);
+    0 < l
+}
+
+// a record has a list, and so has the top
+pub fn list(lines: &[u16; NUMBERS], r: u32) -> bool
+    ensures { λ z. ⌜ z ≡ listIn (now (lines .entry)) r ⌝ }
+{
+    if r == Record::TOP.number {
+        return true;
+    }
+    has(lines, r)
+}
+
+// whether `n` is a child of `r`
+pub fn child(lines: &[u16; NUMBERS], facts: &[u32; FACTS], r: u32, n: u32) -> bool
+    ensures { λ z. ⌜ z ≡ childIn (now (lines .entry)) (now (facts .entry)) r n ⌝ }
+{
+    if has(lines, n) {
+        return field(lines, facts, n, PARENT) == r;
+    }
+    false
+}
+
+pub fn parent(lines: &[u16; NUMBERS], facts: &[u32; FACTS], n: u32) -> u32
+    ensures { λ z. ⌜ z ≡ asked (now (lines .entry)) (now (facts .entry)) .up n ⌝ }
+{
+    field(lines, facts, n, PARENT)
+}
+
+// who follows `p` under `r`; 0 if nobody does
+pub fn follower(lines: &[u16; NUMBERS], facts: &[u32; FACTS], r: u32, p: u32) -> u32
+    ensures { λ z. ⌜ z ≡ asked (now (lines .entry)) (now (facts .entry)) .after r p ⌝ }
+{
+    if p == Record::START.number {
+        if list(lines, r) {
+            return field(lines, facts, r, FIRST);
+        }
+        return 0;
+    }
+    if child(lines, facts, r, p) {
+        return field(lines, facts, p, FOLLOWER);
+    }
+    0
+}
+
+// who stands before `s` under `r`; 0 if nobody does
+pub fn forerunner(lines: &[u16; NUMBERS], facts: &[u32; FACTS], r: u32, s: u32) -> u32
+    ensures { λ z. ⌜ z ≡ asked (now (lines .entry)) (now (facts .entry)) .before r s ⌝ }
+{
+    if s == Record::END.number {
+        if list(lines, r) {
+            return field(lines, facts, r, LAST);
+        }
+        return 0;
+    }
+    if child(lines, facts, r, s) {
+        return field(lines, facts, s, FORERUNNER);
+    }
+    0
+}
+
+// ---- one line more
+
+// The empty table: the top has no child. The array is all zeros before.
+pub fn open(facts: &mut [u32; FACTS])
+    ensures { λ z. ⌜ now (facts .exit) ≡ opened (now (facts .entry)) ⌝ }
+{
+    facts[FIRST] = Record::END.number;
+    facts[LAST] = Record::START.number;
+}
+
+// the fields of a new line: nothing follows it, and it has no child
+fn lay(facts: &mut [u32; FACTS], l: usize, n: u32, r: u32, p: u32, start: u32, long: u32)
+    requires { ⌜ l < ROOM ⌝ }
+    ensures { λ z. ⌜ now (facts .exit) ≡ laid (now (facts .entry)) l n r p start long ⌝ }
+{
+    facts[l * WIDTH + NUMBER] = n;
+    facts[l * WIDTH + PARENT] = r;
+    facts[l * WIDTH + FORERUNNER] = p;
+    facts[l * WIDTH + FOLLOWER] = Record::END.number;
+    facts[l * WIDTH + FIRST] = Record::END.number;
+    facts[l * WIDTH + LAST] = Record::START.number;
+    facts[l * WIDTH + PLACE] = start;
+    facts[l * WIDTH + LENGTH] = long;
+}
+
+// START's follower is a field of the parent, a record's its own
+fn who(r: u32, p: u32) -> u32
+    ensures { λ z. ⌜ z ≡ who r p ⌝ }
+{
+    if p == Record::START.number {
+        return r;
+    }
+    p
+}
+
+fn way(p: u32) -> usize
+    ensures { λ z. ⌜ z ≡ way p ⌝ }
+    ensures { λ z. ⌜ z < WIDTH ⌝ }
+{
+    if p == Record::START.number {
+        return FIRST;
+    }
+    FOLLOWER
+}
+
+// stores `v` in a field of a record's line
+fn put(lines: &[u16; NUMBERS], facts: &mut [u32; FACTS], n: u32, k: usize, v: u32)
+    requires { ⌜ k < WIDTH ⌝ }
+    ensures { λ z. ⌜ now (facts .exit) ≡ putField (now (lines .entry)) (now (facts .entry)) n k v ⌝ }
+{
+    let l = line_of(lines, n);
+    facts[l * WIDTH + k] = v;
+}
+
+// `n` follows `p` under `r`, and is the last child of `r`
+fn hang(lines: &[u16; NUMBERS], facts: &mut [u32; FACTS], n: u32, r: u32, p: u32)
+    ensures { λ z.
+        ⌜ now (facts .exit) ≡ putField (now (lines .entry))
+        (putField (now (lines .entry)) (now (facts .entry)) (who r p) (way p) n) r LAST n ⌝ }
+{
+    let w = who(r, p);
+    let k = way(p);
+    put(lines, facts, w, k, n);
+    put(lines, facts, r, LAST, n);
+}
+
+// Record `n` on line `l`: the last child of `r` now, its content of `long` bytes at `start` in its text.
+pub fn add_line(
+    lines: &mut [u16; NUMBERS],
+    facts: &mut [u32; FACTS],
+    l: usize,
+    n: u32,
+    r: u32,
+    start: u32,
+    long: u32,
+)
+    requires { ⌜ (l < ROOM) × (n < NUMBERS) ⌝ }
+    ensures { λ z. ⌜ now (lines .exit) ≡ addLine (now (lines .entry)) l n ⌝ }
+    ensures { λ z.
+        ⌜ now (facts .exit) ≡ addFacts (addLine (now (lines .entry)) l n) (now (facts .entry)) l n r
+        (field (now (lines .entry)) (now (facts .entry)) r LAST) start long ⌝ }
+{
+    let p = field(lines, facts, r, LAST);
+    lines[n as usize] = l as u16;
+    lay(facts, l, n, r, p, start, long);
+    hang(lines, facts, n, r, p);
+}
