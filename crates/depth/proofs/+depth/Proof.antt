@@ -1,3 +1,4 @@
+-- The proof of `depth`, which calls itself: the line's number falls. Assumes nothing.
 use native.Mathlib.Omega.{arith}
 use borrow.Author.Needs.{needs}
 use Rattle.depth.proofs.Climbs.{climb-top, climb-le, climbs-up, up-lt, one-more, noted-here, noted-more}

@@ -1,3 +1,4 @@
+-- The proof of `deepest`: the greatest so far, and only right depths are noted (Climbs). Assumes nothing.
 use Prim.Native.Nat.{_-_}
 use Rattle.depth.proofs.Climbs.{Deepest, climbing}
 use Rattle.depth.proofs.deepest.Statement.{statement}

@@ -1,0 +1,2 @@
+-- What the calls tell once a table was read.
+pub mod Told

@@ -1,0 +1,145 @@
+-- What the calls tell once the table was read: of a refused table, and of an accepted one. text is the table's bytes, ls and fs are the
+-- two arrays after reading, a is what reading told, n is a number. Assumes nothing.
+use mathlib.Core.Path.{_≡_, refl, sym, ap, _∙_, subst}
+use mathlib.Core.Bool.{Bool, true, false, true≢false}
+use mathlib.Core.List.{List}
+use Prim.Native.Nat.{ℕ, _+_, _-_, _<_, _≤_}
+use native.Mathlib.Omega.{arith}
+use lib.Dec.{T}
+use denote.Ref.{RefT, ptr, now}
+use lib.ListN.{length, take, drop}
+use borrow.Author.Needs.{needs}
+use borrow.Author.Tests.{lt-ltb, ltb-true}
+use Rattle.rules.specs.Line.{Row}
+use Rattle.rules.specs.Table.{stands, Verdict, readable, unreadable, verdict}
+use Rattle.rules.specs.Demands.{Readable}
+use Rattle.rules.specs.Calls.{checked, noPart, partOf, contentAnswer}
+use Rattle.rules.specs.Promises.{Checks, IsPart, HandsBack}
+use Rattle.readback.proofs.Following.{good-readable, good-few}
+use Rattle.readback.proofs.Faults.{stands-in, in-stands}
+use Rattle.readback.proofs.Accepting.{good, refused-code}
+use Rattle.readback.proofs.Parts.{part-none, part-within}
+use Rattle.facts.specs.Memory.{ROOM, PLACE, LENGTH, lineAt, field}
+use Rattle.facts.specs.Asked.{hasIn}
+use Rattle.facts.specs.Holds.{Holds}
+use Rattle.facts.proofs.Shown.{number-row}
+use Rattle.rules.specs.declared.answers.Part.{Part}
+use Rattle.table.specs.declared.Read.{Read}
+use Rattle.table.specs.Read.{readTold, Reads}
+use Rattle.depth.specs.Climbing.{greatestOn, Climbs}
+use Rattle.depth.proofs.Greatest.{climbs, greatest}
+
+module _ (text ls fs : List ℕ) (a : Read) (w : Reads text ls fs a) where
+  -- the verdict's own numbers
+  tells : (v : Verdict) → verdict text ≡ v → a ≡ readTold v
+  tells v q = w .answered ∙ ap readTold q
+
+  -- ---- refused
+
+  pub check-refused : (code line : ℕ) → code ≡ a .code → line ≡ a .line → (code ≡ 0 → ⊥)
+      → Checks text (record { code = code; line = line; count = 0; depth = 0 })
+  check-refused code line e d f = record { answered = go (verdict text) refl }
+    where
+      go : (v : Verdict) → verdict text ≡ v → record { code = code; line = line; count = 0; depth = 0 } ≡ checked v
+      go (readable t) q = absurd (f (e ∙ ap (λ (z : Read). z .code) (tells (readable t) q)))
+      go (unreadable c l) q =
+          let z = tells (unreadable c l) q in
+          λ i. record { code = (e ∙ ap (λ (y : Read). y .code) z) i; line = (d ∙ ap (λ (y : Read). y .line) z) i; count = 0; depth = 0 }
+
+  pub part-refused : (n : ℕ) (p : Part) → (a .code ≡ 0 → ⊥) → p ≡ noPart → p ≡ contentAnswer text n
+  part-refused n p f e = e ∙ go (verdict text) refl
+    where
+      go : (v : Verdict) → verdict text ≡ v → noPart ≡ partOf v text n
+      go (readable t) q = absurd (f (ap (λ (z : Read). z .code) (tells (readable t) q)))
+      go (unreadable c l) q = refl
+
+  -- ---- accepted
+
+  module _ (fine : a .code ≡ 0) where
+    -- the table that was read
+    record Table : Type 0 where
+      t : List Row
+      is : verdict text ≡ readable t
+      counted : a .count ≡ length t
+
+    table : Table
+    table = go (verdict text) refl
+      where
+        go : (v : Verdict) → verdict text ≡ v → Table
+        go (readable t) q = record { t = t; is = q; counted = ap (λ (z : Read). z .count) (tells (readable t) q) }
+        go (unreadable c l) q =
+            absurd (refused-code text c l q (sym (ap (λ (z : Read). z .code) (tells (unreadable c l) q)) ∙ fine))
+
+    abbrev t : List Row
+    t = table .t
+
+    holds : Holds ls fs t
+    holds = w .held t (table .is)
+
+    ok : Readable t
+    ok = good-readable t (good text t (table .is))
+
+    few : length t < ROOM
+    few = omega (arith, good-few t (good text t (table .is)))
+
+    pub check-climbs : Climbs ls fs (a .count)
+    check-climbs = subst (Climbs ls fs) (sym (table .counted)) (climbs ls fs t holds ok few)
+
+    pub check-accepted : (code count d : ℕ) → code ≡ a .code → count ≡ a .count → d ≡ greatestOn ls fs count
+        → Checks text (record { code = code; line = 0; count = count; depth = d })
+    check-accepted code count d e q f = record {
+      answered =
+          (λ i. record {
+            code = (e ∙ fine) i;
+            line = 0;
+            count = (q ∙ table .counted) i;
+            depth = (f ∙ ap (greatestOn ls fs) (q ∙ table .counted) ∙ greatest ls fs t holds ok few) i;
+          })
+          ∙ ap checked (sym (table .is));
+    }
+
+    pub part-absent : (n : ℕ) (b : Bool) (p : Part) → b ≡ hasIn ls n → b ≡ false → p ≡ noPart → p ≡ contentAnswer text n
+    part-absent n b p e f q =
+        q ∙ sym (part-none text t (table .is) n (λ m. true≢false (sym (lt-ltb 0 (lineAt ls n) (holds .known n m)) ∙ sym e ∙ f)))
+
+    pub part-there : (n s k : ℕ) (b : Bool) → b ≡ hasIn ls n → b ≡ true → s ≡ field ls fs n PLACE → k ≡ field ls fs n LENGTH
+        → record { start = s; length = k } ≡ contentAnswer text n
+    part-there n s k b e f p q =
+        (λ i. record { start = p i; length = q i })
+        ∙ w .placed t (table .is) n (holds .only n (ltb-true 0 (lineAt ls n) (sym e ∙ f)))
+
+pub ruleset tellings = (check-refused, check-climbs, check-accepted, part-refused, part-absent, part-there, needs)
+
+-- ---- the part that is told lies in the text
+
+pub part-in : (text : List ℕ) (n : ℕ) (p : Part) → p ≡ contentAnswer text n → p .start + p .length ≤ length text
+part-in text n p e = subst In (sym e) (go (verdict text) refl)
+  where
+    In : Part → Type 0
+    In q = q .start + q .length ≤ length text
+
+    known : (t : List Row) → verdict text ≡ readable t → (b : Bool) → stands n t ≡ b → In (contentAnswer text n)
+    known t q true d =
+        let w = number-row t n (stands-in t n (subst T (sym d) tt)) in
+        subst (λ (m : ℕ). In (contentAnswer text m)) (w .2) (part-within text t q (w .0) (w .1))
+    known t q false d = subst In (sym (part-none text t q n (λ m. subst T d (in-stands t n m)))) (omega arith)
+
+    go : (v : Verdict) → verdict text ≡ v → In (contentAnswer text n)
+    go (readable t) q = known t q (stands n t) refl
+    go (unreadable c l) q = subst In (sym (ap (λ (v : Verdict). partOf v text n) q)) (omega arith)
+
+-- the part cut out between a start and an end is the part that was told
+pub hands-back : (text handed : RefT (List ℕ)) (n : ℕ) (p : Part) → p ≡ contentAnswer (now text) n → ptr handed .0 ≡ ptr text .0
+    → ptr handed .1 ≡ p .start + ptr text .1 → now handed ≡ take (p .start + p .length - p .start) (drop (p .start) (now text))
+    → HandsBack text n handed
+hands-back text handed n p e b o w = record { part = subst (IsPart text handed) e cut }
+  where
+    long : p .start + p .length - p .start ≡ p .length
+    long = omega arith
+
+    cut : IsPart text handed p
+    cut = record {
+      block = b;
+      place = o ∙ omega arith;
+      bytes = w ∙ ap (λ (k : ℕ). take k (drop (p .start) (now text))) long;
+    }

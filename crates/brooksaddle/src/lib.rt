@@ -1,0 +1,99 @@
+// The public calls, and their exports to C: libbrooksaddle.a. Each takes any bytes; none asks anything of its caller.
+use depth::deepest;
+use facts::FACTS;
+use facts::LENGTH;
+use facts::NUMBERS;
+use facts::PLACE;
+use facts::field;
+use facts::has;
+use rules::answers::Checked;
+use rules::answers::Part;
+use rules::codes::ACCEPTED;
+use table::read_table;
+ghost use mathlib.Core.Path.{_≡_};
+ghost use Prim.Native.Nat.{_+_};
+ghost use lib.ListN.{length};
+ghost use Rattle.rules.specs.Calls.{noPart, contentAnswer};
+ghost use Rattle.rules.specs.Promises.{Checks, HandsBack};
+
+// ---- check
+
+// One table: code, line, count of records, greatest depth.
+pub fn check(text: &[u8]) -> Checked
+    ensures { λ r. ⌜ Checks (now (text .entry)) r ⌝ }
+{
+    let mut lines = [0u16; NUMBERS];
+    let mut facts = [0u32; FACTS];
+    let read = read_table(text, &mut lines, &mut facts);
+    let code = read.code;
+    if code != ACCEPTED {
+        return Checked {
+            code,
+            line: read.line,
+            count: 0,
+            depth: 0,
+        };
+    }
+    let count = read.count;
+    let depth = deepest(&lines, &facts, count);
+    Checked {
+        code,
+        line: 0,
+        count,
+        depth,
+    }
+}
+
+#[no_mangle]
+pub extern "C" fn brooksaddle_check(text: &[u8]) -> Checked
+    ensures { λ r. ⌜ Checks (now (text .entry)) r ⌝ }
+{
+    check(text)
+}
+
+// ---- content
+
+fn no_part() -> Part
+    ensures { λ r. ⌜ r ≡ noPart ⌝ }
+{
+    Part {
+        start: 0,
+        length: 0,
+    }
+}
+
+// Where the content of a number lies in the text: the empty part at its start for a refused table or an absent number.
+pub fn content_part(text: &[u8], number: u32) -> Part
+    ensures { λ r. ⌜ r ≡ contentAnswer (now (text .entry)) number ⌝ }
+{
+    let mut lines = [0u16; NUMBERS];
+    let mut facts = [0u32; FACTS];
+    let read = read_table(text, &mut lines, &mut facts);
+    if read.code != ACCEPTED {
+        return no_part();
+    }
+    if has(&lines, number) {
+        let start = field(&lines, &facts, number, PLACE) as usize;
+        let length = field(&lines, &facts, number, LENGTH) as usize;
+        return Part { start, length };
+    }
+    no_part()
+}
+
+// The very part of the text that holds the content of a number.
+pub fn content(text: &[u8], number: u32) -> &[u8]
+    ensures { λ r. ⌜ HandsBack (text .entry) number r ⌝ }
+{
+    let part = content_part(text, number);
+    let start = part.start;
+    let end = start + part.length;
+    &text[start..end]
+}
+
+// An export cannot hand back a reference, so this one tells where the part lies.
+#[no_mangle]
+pub extern "C" fn brooksaddle_content(text: &[u8], number: u32) -> Part
+    ensures { λ r. ⌜ r ≡ contentAnswer (now (text .entry)) number ⌝ }
+{
+    content_part(text, number)
+}

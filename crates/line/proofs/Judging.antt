@@ -1,0 +1,230 @@
+-- The faults of a line's parts, in their order, and its row. s is what is left of the text, l the line without its LF, `parts` the
+-- places of its parts, p a part that writes a number, n the number read there. Assumes nothing.
+use mathlib.Core.Path.{_≡_, refl, sym, ap, _∙_}
+use mathlib.Core.Bool.{Bool, true, false, cond, not, _&&_, true≢false}
+use mathlib.Core.List.{List}
+use Prim.Native.Nat.{ℕ, min, _+_, _-_, _<_, _≤_}
+use native.Mathlib.Omega.{arith}
+use lib.Dec.{eqb, leb, ltb}
+use lib.ListN.{length, take, drop}
+use borrow.Author.Tests.{ne-eqb, le-leb, lt-leb, leb-true, leb-false, not-false}
+use Rattle.rules.specs.Codes.{accepted, byteNotAllowed, fewTabs, badNumber, badParent, badContent}
+use Rattle.rules.specs.Limits.{GREATEST}
+use Rattle.rules.specs.Lists.{every}
+use Rattle.rules.specs.Marks.{isRecord}
+use Rattle.rules.specs.Line.{numberPart, parentPart, contentPart, numberOk, parentOk, lineFault}
+use Rattle.rules.specs.Text.{TAB, LF, allowed, count, before, decimal, value, filled, contentOk}
+use Rattle.text.specs.Reads.{NONE, numberIn}
+use Rattle.text.proofs.Places.{part-from, left-none}
+use Rattle.line.specs.Parts.{contentFits, shapeFault, noParts, goodParts, partsOf}
+use Rattle.line.specs.Told.{faulty, good, lineTold, nextLine}
+use Rattle.line.specs.declared.Line.{Line}
+use Rattle.line.specs.declared.Parts.{Parts}
+use Rattle.line.proofs.Parting.{Cut}
+
+-- ---- what is told of a line with a fault, and of one without
+
+told-faulty : (l : List ℕ) (code : ℕ) → lineFault l ≡ code → (code ≡ accepted → ⊥) → faulty code ≡ lineTold l
+unfolding lineTold
+told-faulty l code e n =
+    sym (ap (λ (k : ℕ). cond (eqb k accepted) (good l) (faulty k)) e
+    ∙ ap (λ (u : Bool). cond u (good l) (faulty code)) (ne-eqb code accepted n))
+
+pub told-good : (l : List ℕ) → lineFault l ≡ accepted → good l ≡ lineTold l
+unfolding lineTold
+told-good l e = sym (ap (λ (k : ℕ). cond (eqb k accepted) (good l) (faulty k)) e)
+
+-- ---- codes 4 and 5 come before the others
+
+-- codes 6 to 8, for the answers of their tests
+abbrev judged : Bool → Bool → Bool → ℕ
+judged number parent content = cond (not number) badNumber (cond (not parent) badParent (cond (not content) badContent accepted))
+
+-- codes 4 and 5 before what is left
+abbrev shaped : Bool → Bool → ℕ → ℕ
+shaped bytes tabs rest = cond bytes byteNotAllowed (cond tabs fewTabs rest)
+
+others-shut : (a b : Bool) (rest : ℕ) → (shaped a b accepted ≡ accepted → ⊥) → shaped a b rest ≡ shaped a b accepted
+others-shut true b rest n = refl
+others-shut false true rest n = refl
+others-shut false false rest n = absurd (n refl)
+
+others-open : (a b : Bool) (rest : ℕ) → shaped a b accepted ≡ accepted → shaped a b rest ≡ rest
+others-open true b rest e = absurd (omega arith)
+others-open false true rest e = absurd (omega arith)
+others-open false false rest e = refl
+
+module _ (l : List ℕ) where
+  fault-shape : (shapeFault l ≡ accepted → ⊥) → lineFault l ≡ shapeFault l
+  fault-shape n = others-shut (not (every allowed l)) (ltb (count TAB l) 2) _ n
+
+  fault-judged : shapeFault l ≡ accepted
+      → lineFault l ≡ judged (numberOk (numberPart l)) (parentOk (parentPart l)) (contentOk (contentPart l))
+  fault-judged e = others-open (not (every allowed l)) (ltb (count TAB l) 2) _ e
+
+-- ---- numbers
+
+and-false : (u : Bool) → (u && false) ≡ false
+and-false true = refl
+and-false false = refl
+
+-- a decimal above the greatest number counts as none
+record-read : (d : Bool) (v : ℕ) → isRecord (cond (d && leb v GREATEST) v NONE) ≡ (d && isRecord v)
+record-read false v = refl
+record-read true v = go (leb v GREATEST) refl
+  where
+    go : (u : Bool) → leb v GREATEST ≡ u → isRecord (cond u v NONE) ≡ isRecord v
+    go true q = refl
+    go false q = rw q (sym (and-false (leb 1 v)))
+
+top-read : (d : Bool) (v : ℕ) → leb (cond (d && leb v GREATEST) v NONE) GREATEST ≡ (d && leb v GREATEST)
+top-read false v = refl
+top-read true v = go (leb v GREATEST) refl
+  where
+    go : (u : Bool) → leb v GREATEST ≡ u → leb (cond u v NONE) GREATEST ≡ u
+    go true q = q
+    go false q = refl
+
+module _ (p : List ℕ) (n : ℕ) (e : n ≡ numberIn p) where
+  number-ok : isRecord n ≡ numberOk p
+  number-ok = ap isRecord e ∙ record-read (decimal p) (value p)
+
+  parent-ok : leb n GREATEST ≡ parentOk p
+  parent-ok = ap (λ (k : ℕ). leb k GREATEST) e ∙ top-read (decimal p) (value p)
+
+  parent-is : parentOk p ≡ true → n ≡ value p
+  parent-is h = e ∙ ap (λ (u : Bool). cond u (value p) NONE) h
+
+  number-is : numberOk p ≡ true → n ≡ value p
+  number-is h = parent-is (go (decimal p) (leb 1 (value p)) (leb (value p) GREATEST) h)
+    where
+      go : (a b c : Bool) → (a && (b && c)) ≡ true → (a && c) ≡ true
+      go true true c f = f
+      go true false c f = absurd (true≢false (sym f))
+      go false b c f = f
+
+-- ---- the ways through reading a line
+
+-- the parts are cut and the number is good, and then the parent
+pub record Numbered (s : List ℕ) (parts : Parts) (n : ℕ) : Type 0 where
+  pub cut : Cut s parts
+  pub ok : numberOk (numberPart (before LF s)) ≡ true
+  pub is : n ≡ value (numberPart (before LF s))
+
+pub record Parented (s : List ℕ) (parts : Parts) (n p : ℕ) : Type 0 where
+  pub number : Numbered s parts n
+  pub ok : parentOk (parentPart (before LF s)) ≡ true
+  pub is : p ≡ value (parentPart (before LF s))
+
+module _ (s : List ℕ) (parts : Parts) where
+  abbrev l : List ℕ
+  l = before LF s
+
+  pub judge-shape : (r : Line) → parts ≡ partsOf l → (parts .code ≡ accepted → ⊥) → r ≡ faulty (parts .code) → r ≡ nextLine s
+  judge-shape r e n f = f ∙ ap faulty code ∙ told-faulty l (shapeFault l) (fault-shape l bad) bad
+    where
+      bad : shapeFault l ≡ accepted → ⊥
+      bad z = n (ap (λ (q : Parts). q .code) e ∙ ap (λ (k : ℕ). cond (eqb k accepted) (goodParts l) (noParts k) .code) z)
+
+      code : parts .code ≡ shapeFault l
+      code =
+          ap (λ (q : Parts). q .code) e
+          ∙ ap (λ (u : Bool). cond u (goodParts l) (noParts (shapeFault l)) .code) (ne-eqb (shapeFault l) accepted bad)
+
+  judged-is : Cut s parts → lineFault l ≡ judged (numberOk (numberPart l)) (parentOk (parentPart l)) (contentOk (contentPart l))
+  judged-is k = fault-judged l (k .shape)
+
+  -- m is n as a record's number, u whether it may be one
+  module _ (n m : ℕ) (u : Bool) (k : Cut s parts) (e : n ≡ numberIn (take (parts .first) s)) (f : m ≡ n) (g : u ≡ isRecord m) where
+    number-tested : u ≡ numberOk (numberPart l)
+    number-tested = g ∙ ap isRecord f ∙ number-ok (numberPart l) n (e ∙ ap numberIn (k .number))
+
+    pub judge-number : (r : Line) → not u ≡ true → r ≡ faulty badNumber → r ≡ nextLine s
+    judge-number r h q = q ∙ told-faulty l badNumber (judged-is k ∙ rw (← number-tested, h)) (λ z. absurd (omega (arith, z)))
+
+    pub numbered : not u ≡ false → Numbered s parts n
+    numbered h =
+        let ok : numberOk (numberPart l) ≡ true = sym number-tested ∙ not-false u h in
+        record { cut = k; ok = ok; is = number-is (numberPart l) n (e ∙ ap numberIn (k .number)) ok }
+
+  module _ (n p : ℕ) (a : Numbered s parts n)
+      (e : p ≡ numberIn (take (parts .second - (parts .first + 1)) (drop (parts .first + 1) s))) where
+    parent-read : p ≡ numberIn (parentPart l)
+    parent-read = e ∙ ap numberIn (a .cut .parent)
+
+    parent-tested : leb p GREATEST ≡ parentOk (parentPart l)
+    parent-tested = parent-ok (parentPart l) p parent-read
+
+    pub judge-parent : (r : Line) → GREATEST < p → r ≡ faulty badParent → r ≡ nextLine s
+    judge-parent r h q =
+        q ∙ told-faulty l badParent (judged-is (a .cut) ∙ rw (a .ok, ← parent-tested, lt-leb p GREATEST h)) (λ z. absurd (omega (arith, z)))
+
+    pub parented : p ≤ GREATEST → Parented s parts n p
+    parented h =
+        let ok : parentOk (parentPart l) ≡ true = sym parent-tested ∙ le-leb p GREATEST h in
+        record { number = a; ok = ok; is = parent-is (parentPart l) p parent-read ok }
+
+  -- `long` is the content's length, u whether the content keeps its rule
+  module _ (n p long : ℕ) (u : Bool) (a : Parented s parts n p) (d : long ≡ parts .end - (parts .second + 1))
+      (e : u ≡ contentFits long (parts .filled)) where
+    cut : Cut s parts
+    cut = a .number .cut
+
+    long-is : long ≡ length (contentPart l)
+    long-is = d ∙ cut .content
+
+    content-tested : u ≡ contentOk (contentPart l)
+    content-tested = e ∙ rw (long-is, cut .filled)
+
+    content-judged : lineFault l ≡ cond (not u) badContent accepted
+    content-judged = judged-is cut ∙ rw (a .number .ok, a .ok, ← content-tested)
+
+    pub judge-content : (r : Line) → not u ≡ true → r ≡ faulty badContent → r ≡ nextLine s
+    judge-content r h q = q ∙ told-faulty l badContent (content-judged ∙ rw h) (λ z. absurd (omega (arith, z)))
+
+    start-is : parts .second + 1 ≡ length l - length (contentPart l)
+    start-is = omega (arith, cut .content, cut .long, cut .middle)
+
+    next-is : parts .end + 1 ≡ length l + 1
+    next-is = ap (λ (x : ℕ). x + 1) (cut .long)
+
+    abbrev row : Line
+    row =
+        record {
+          code = accepted;
+          number = n;
+          parent = p;
+          start = parts .second + 1;
+          length = long;
+          next = parts .end + 1;
+        }
+
+    row-is : row ≡ good l
+    row-is =
+        λ i. record {
+          code = accepted;
+          number = a .number .is i;
+          parent = a .is i;
+          start = start-is i;
+          length = long-is i;
+          next = next-is i;
+        }
+
+    pub row-told : not u ≡ false → row ≡ nextLine s
+    row-told h = row-is ∙ told-good l (content-judged ∙ rw h)
+
+-- ---- the line at a place
+
+-- `from` is the place, or the end of the text where the place lies beyond it
+from-place : (s : List ℕ) (place from : ℕ) → from ≡ min place (length s) → drop from s ≡ drop place s
+from-place s place from e = go (leb place (length s)) refl
+  where
+    go : (u : Bool) → leb place (length s) ≡ u → drop from s ≡ drop place s
+    go true q = let f : from ≡ place = omega (arith, e, leb-true place (length s) q) in ap (λ (k : ℕ). drop k s) f
+    go false q =
+        let h : length s < place = leb-false place (length s) q in
+        left-none s from (omega (arith, e, h)) ∙ sym (left-none s place (omega (arith, h)))
+
+pub place-told : (s : List ℕ) (place from : ℕ) (r : Line) → from ≡ min place (length s)
+    → r ≡ nextLine (take (length s - from) (drop from s)) → r ≡ nextLine (drop place s)
+place-told s place from r e f = f ∙ ap nextLine (part-from s from ∙ from-place s place from e)

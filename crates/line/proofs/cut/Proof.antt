@@ -1,0 +1,84 @@
+-- `cut` meets its contract. Assumes nothing.
+use native.Mathlib.Omega.{arith}
+use denote.Ref.{now}
+use Rattle.line.proofs.Scanning.{tab-high}
+use Rattle.line.proofs.Cutting.{cuts}
+use Rattle.line.proofs.cut.Statement.{statement}
+use Rattle.line.proofs.cut.Tie as tie
+
+plain-end-requires : tie.Need-plain-end-requires
+plain-end-requires c κs = search cuts
+
+byte-at-requires : tie.Need-byte-at-requires
+byte-at-requires c κs = search cuts
+
+short-fault-requires : tie.Need-short-fault-requires
+short-fault-requires c κs = search cuts
+
+no-parts-requires : tie.Need-no-parts-requires
+no-parts-requires c κs = search cuts
+
+returns : tie.Need-returns
+returns c = search cuts
+
+add-plain-end : tie.Need-add-plain-end
+add-plain-end c = omega (
+  arith,
+  tab-high (now (c .before .before .before .before .args .rest)) 0 _ _ (c .before .before .plain-end .ensures)
+      (c .before .byte-at .ensures) (c .if1 .left),
+)
+
+plain-end-requires-2 : tie.Need-plain-end-requires-2
+plain-end-requires-2 c κs = search cuts
+
+byte-at-requires-2 : tie.Need-byte-at-requires-2
+byte-at-requires-2 c κs = search cuts
+
+short-fault-requires-2 : tie.Need-short-fault-requires-2
+short-fault-requires-2 c κs = search cuts
+
+no-parts-requires-2 : tie.Need-no-parts-requires-2
+no-parts-requires-2 c κs = search cuts
+
+returns-2 : tie.Need-returns-2
+returns-2 c = search cuts
+
+add-read-fields : tie.Need-add-read-fields
+add-read-fields c = omega (arith, tab-high _ _ _ _ (c .before .before .plain-end2 .ensures) (c .before .byte-at2 .ensures) (c .if2 .left))
+
+read-fields-requires : tie.Need-read-fields-requires
+read-fields-requires c κs = search cuts
+
+byte-at-requires-3 : tie.Need-byte-at-requires-3
+byte-at-requires-3 c κs = search cuts
+
+no-parts-requires-3 : tie.Need-no-parts-requires-3
+no-parts-requires-3 c κs = search cuts
+
+returns-3 : tie.Need-returns-3
+returns-3 c = search cuts
+
+returns-4 : tie.Need-returns-4
+returns-4 c = search cuts
+
+pub cut-spec : {M : Type 1} → statement M
+cut-spec =
+    tie.close
+    (tie.spec
+    plain-end-requires
+    byte-at-requires
+    short-fault-requires
+    no-parts-requires
+    returns
+    add-plain-end
+    plain-end-requires-2
+    byte-at-requires-2
+    short-fault-requires-2
+    no-parts-requires-2
+    returns-2
+    add-read-fields
+    read-fields-requires
+    byte-at-requires-3
+    no-parts-requires-3
+    returns-3
+    returns-4)

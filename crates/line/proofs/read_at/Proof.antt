@@ -1,0 +1,34 @@
+-- `read_at` meets its contract. Assumes nothing.
+use Rattle.line.proofs.Judging.{place-told}
+use borrow.Author.Needs.{needs}
+use Rattle.line.proofs.read_at.Statement.{statement}
+use Rattle.line.proofs.read_at.Tie as tie
+
+within-requires : tie.Need-within-requires
+within-requires c κs = search needs
+
+sub-read-line : tie.Need-sub-read-line
+sub-read-line c = search needs
+
+part-read-line-start : tie.Need-part-read-line-start
+part-read-line-start c = search needs
+
+part-read-line-end : tie.Need-part-read-line-end
+part-read-line-end c = search needs
+
+read-line-requires : tie.Need-read-line-requires
+read-line-requires c κs = search needs
+
+returns : tie.Need-returns
+returns c = search place-told
+
+pub read-at-spec : {M : Type 1} → statement M
+read-at-spec =
+    tie.close
+    (tie.spec
+    within-requires
+    sub-read-line
+    part-read-line-start
+    part-read-line-end
+    read-line-requires
+    returns)

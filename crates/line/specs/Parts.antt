@@ -1,0 +1,64 @@
+-- Where the parts of one line lie, and how its content's fields are looked at. s is what is left of a text, l a line without its LF, x
+-- a byte, c a content. Assumes nothing.
+use mathlib.Core.Bool.{Bool, false, cond, not, _&&_}
+use mathlib.Core.List.{List, [], _∷_}
+use Prim.Native.Nat.{ℕ, suc, _+_}
+use lib.Dec.{eqb, leb, ltb}
+use lib.ListN.{length, getD, take}
+use Rattle.rules.specs.Codes.{accepted, byteNotAllowed, fewTabs}
+use Rattle.rules.specs.Limits.{CONTENT}
+use Rattle.rules.specs.Lists.{every}
+use Rattle.rules.specs.Line.{numberPart, parentPart, contentPart}
+use Rattle.rules.specs.Text.{TAB, LF, allowed, count, fields, filled}
+use Rattle.line.specs.declared.Fields.{Fields}
+use Rattle.line.specs.declared.Parts.{Parts}
+
+-- the byte at a place; the end of the text ends a line as an LF does
+abbrev pub byteAt : List ℕ → ℕ → ℕ
+byteAt s place = getD s place LF
+
+-- the fault of a line that ends, with the byte x, before its second tab
+abbrev pub shortFault : ℕ → ℕ
+shortFault x = cond (eqb x LF) fewTabs byteNotAllowed
+
+-- ---- the content's fields
+
+-- how many bytes from the first on are allowed
+abbrev pub allowedRun : List ℕ → ℕ
+allowedRun [] = 0
+allowedRun (x ∷ s) = cond (allowed x) (suc (allowedRun s)) 0
+
+-- whether none of the fields is empty that the allowed bytes of s make
+abbrev pub allFilled : List ℕ → Bool
+allFilled s = every filled (fields (take (allowedRun s) s))
+
+-- the fields of what is left from a place on, behind others that are filled or not
+abbrev pub fieldsFrom : Bool → ℕ → List ℕ → Fields
+fieldsFrom others place s = record { end = place + allowedRun s; filled = others && allFilled s }
+
+-- the rule of a content, by its length and whether all its fields are filled
+abbrev pub contentFits : ℕ → Bool → Bool
+contentFits long filled = leb 1 long && (leb long CONTENT && filled)
+
+-- ---- the parts of a line
+
+-- codes 4 and 5
+abbrev pub shapeFault : List ℕ → ℕ
+shapeFault l = cond (not (every allowed l)) byteNotAllowed (cond (ltb (count TAB l) 2) fewTabs accepted)
+
+abbrev pub noParts : ℕ → Parts
+noParts code = record { code = code; first = 0; second = 0; end = 0; filled = false }
+
+-- the places of the two tabs and of the end
+abbrev pub goodParts : List ℕ → Parts
+goodParts l =
+    record {
+      code = accepted;
+      first = length (numberPart l);
+      second = length (numberPart l) + 1 + length (parentPart l);
+      end = length l;
+      filled = every filled (fields (contentPart l));
+    }
+
+abbrev pub partsOf : List ℕ → Parts
+partsOf l = cond (eqb (shapeFault l) accepted) (goodParts l) (noParts (shapeFault l))

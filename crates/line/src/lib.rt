@@ -1,0 +1,235 @@
+// One line of a table: its row, with the place of its content, or its fault. Each byte of the line is looked at once.
+use rules::codes::ACCEPTED;
+use rules::codes::BAD_CONTENT;
+use rules::codes::BAD_NUMBER;
+use rules::codes::BAD_PARENT;
+use rules::codes::BYTE_NOT_ALLOWED;
+use rules::codes::FEW_TABS;
+use rules::limits::CONTENT;
+use rules::limits::GREATEST;
+use rules::record::Record;
+use text::LF;
+use text::TAB;
+use text::plain_end;
+ghost use mathlib.Core.Bool.{true, _&&_};
+ghost use mathlib.Core.Path.{_≡_};
+ghost use Prim.Native.Nat.{_-_, min};
+ghost use lib.Dec.{ltb};
+ghost use lib.ListN.{length, drop};
+ghost use Rattle.rules.specs.Text.{LF as lineFeed, before};
+ghost use Rattle.line.specs.Told.{faulty as faultyOf, nextLine};
+ghost use Rattle.line.specs.Parts.{byteAt, shortFault, fieldsFrom, contentFits, noParts, partsOf};
+
+// What is told of a line: code 0, number, parent, the content's start and length in the line, and where the next line starts; or the
+// code of its fault and zeros.
+pub struct Line {
+    pub code: u32,
+    pub number: u32,
+    pub parent: u32,
+    pub start: usize,
+    pub length: usize,
+    pub next: usize,
+}
+
+// Where the fields of a content end, and whether none of them is empty.
+struct Fields {
+    end: usize,
+    filled: bool,
+}
+
+// Where the parts of a line lie, code 0: the places of its two tabs and of its end, and whether all fields of its content are filled;
+// or its fault, code 4 or 5.
+struct Parts {
+    code: u32,
+    first: usize,
+    second: usize,
+    end: usize,
+    filled: bool,
+}
+
+fn faulty(code: u32) -> Line
+    ensures { λ r. ⌜ r ≡ faultyOf code ⌝ }
+{
+    Line {
+        code,
+        number: 0,
+        parent: 0,
+        start: 0,
+        length: 0,
+        next: 0,
+    }
+}
+
+fn no_parts(code: u32) -> Parts
+    ensures { λ r. ⌜ r ≡ noParts code ⌝ }
+{
+    Parts {
+        code,
+        first: 0,
+        second: 0,
+        end: 0,
+        filled: false,
+    }
+}
+
+// The byte at a place. The end of the text ends a line as an LF does.
+fn byte_at(s: &[u8], at: usize) -> u8
+    ensures { λ r. ⌜ r ≡ byteAt (now (s .entry)) at ⌝ }
+{
+    if at < s.len() { s[at] } else { LF }
+}
+
+// The fault of a line that the byte x ends before its second tab.
+fn short_fault(x: u8) -> u32
+    ensures { λ r. ⌜ r ≡ shortFault x ⌝ }
+{
+    if x == LF { FEW_TABS } else { BYTE_NOT_ALLOWED }
+}
+
+// Whether the other fields are filled, and this one is.
+fn still_filled(others: bool, from: usize, end: usize) -> bool
+    ensures { λ r. ⌜ r ≡ others && ltb from end ⌝ }
+{
+    if others { from < end } else { false }
+}
+
+// The fields from a place on, one after another up to their tabs.
+fn read_fields(s: &[u8], start: usize) -> Fields
+    ensures { λ r. ⌜ r ≡ fieldsFrom true start (drop start (now (s .entry))) ⌝ }
+{
+    let mut from = start;
+    let mut filled = true;
+    loop {
+        let end = plain_end(s, from);
+        filled = still_filled(filled, from, end);
+        if byte_at(s, end) != TAB {
+            return Fields { end, filled };
+        }
+        from = end + 1;
+    }
+}
+
+// Where the parts of the line lie that the rest of a text starts with. A byte that a line may not hold stops a run of plain bytes, so
+// no run is gone over twice; only the byte that stopped it is read again.
+fn cut(rest: &[u8]) -> Parts
+    ensures { λ r. ⌜ r ≡ partsOf (before lineFeed (now (rest .entry))) ⌝ }
+{
+    let first = plain_end(rest, 0);
+    let x = byte_at(rest, first);
+    if x != TAB {
+        return no_parts(short_fault(x));
+    }
+    let second = plain_end(rest, first + 1);
+    let y = byte_at(rest, second);
+    if y != TAB {
+        return no_parts(short_fault(y));
+    }
+    let content = read_fields(rest, second + 1);
+    if byte_at(rest, content.end) != LF {
+        return no_parts(BYTE_NOT_ALLOWED);
+    }
+    Parts {
+        code: ACCEPTED,
+        first,
+        second,
+        end: content.end,
+        filled: content.filled,
+    }
+}
+
+// How many bytes lie between a place and an end; none where the end is not behind it.
+fn bytes_between(from: usize, end: usize) -> usize
+    ensures { λ r. ⌜ r ≡ end - from ⌝ }
+{
+    if from < end { end - from } else { 0 }
+}
+
+// The rule of a content, by its length and whether all its fields are filled.
+fn content_fits(length: usize, filled: bool) -> bool
+    ensures { λ r. ⌜ r ≡ contentFits length filled ⌝ }
+{
+    if length == 0 {
+        return false;
+    }
+    if CONTENT < length {
+        return false;
+    }
+    filled
+}
+
+// The line that the rest of a text starts with.
+pub fn read_line(rest: &[u8]) -> Line
+    ensures { λ r. ⌜ r ≡ nextLine (now (rest .entry)) ⌝ }
+{
+    let parts = cut(rest);
+    if parts.code != ACCEPTED {
+        return faulty(parts.code);
+    }
+    let first = parts.first;
+    let number = text::number(&rest[..first]);
+    if !Record::new(number).is_record() {
+        return faulty(BAD_NUMBER);
+    }
+    let from = first + 1;
+    let second = parts.second;
+    let parent = text::number(&rest[from..second]);
+    if GREATEST < parent {
+        return faulty(BAD_PARENT);
+    }
+    let start = second + 1;
+    let length = bytes_between(start, parts.end);
+    if !content_fits(length, parts.filled) {
+        return faulty(BAD_CONTENT);
+    }
+    Line {
+        code: ACCEPTED,
+        number,
+        parent,
+        start,
+        length,
+        next: parts.end + 1,
+    }
+}
+
+// A place of the text; its end where there is no such place.
+fn within(text: &[u8], at: usize) -> usize
+    ensures { λ r. ⌜ r ≡ min at (length (now (text .entry))) ⌝ }
+{
+    if at < text.len() { at } else { text.len() }
+}
+
+// The line at a place of the text: what is left from there goes on as a part.
+pub fn read_at(text: &[u8], at: usize) -> Line
+    ensures { λ r. ⌜ r ≡ nextLine (drop at (now (text .entry))) ⌝ }
+{
+    let from = within(text, at);
+    read_line(&text[from..])
+}
+
+// A text and the place reached in it.
+pub struct LineReader<'a> {
+    pub text: &'a [u8],
+    pub at: usize,
+}
+
+impl<'a> LineReader<'a> {
+    pub fn new(text: &'a [u8], at: usize) -> LineReader<'a>
+        ensures { λ r. ⌜ (r .text ≡ text .entry) × (r .at ≡ at) ⌝ }
+    {
+        LineReader { text, at }
+    }
+
+    // The line at the place reached.
+    pub fn next(self) -> Line
+        ensures { λ s. ⌜ s ≡ nextLine (drop (self .entry .at) (now (self .entry .text))) ⌝ }
+    {
+        read_at(self.text, self.at)
+    }
+}
+
+// The same with plain parameters.
+pub fn line_at(text: &[u8], at: usize) -> Line
+    ensures { λ r. ⌜ r ≡ nextLine (drop at (now (text .entry))) ⌝ }
+{
+    LineReader::new(text, at).next()
+}

@@ -1,0 +1,2 @@
+-- What reading a table answers and leaves in memory.
+pub mod Read

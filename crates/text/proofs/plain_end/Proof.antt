@@ -1,0 +1,53 @@
+-- `plain_end` meets its contract: i is the place reached. Assumes nothing.
+use mathlib.Core.Path.{_≡_}
+use Prim.Native.Nat.{_+_, _-_}
+use lib.ListN.{length, drop}
+use Rattle.text.specs.Reads.{plainRun}
+use Rattle.text.proofs.Runs.{runs}
+use Rattle.text.proofs.plain_end.Statement.{statement}
+use Rattle.text.proofs.plain_end.Tie as tie
+
+abbrev Inv-loop : tie.InvT-loop
+Inv-loop s from i₀ i = i + plainRun (drop i s) ≡ from + plainRun (drop from s)
+
+abbrev μ-loop : tie.MeasureT-loop
+μ-loop s from i₀ i = length s - i
+
+loop-holds : tie.Need-loop-holds Inv-loop μ-loop
+loop-holds c = search runs
+
+shared-slice-read-plain : tie.Need-shared-slice-read-plain Inv-loop μ-loop
+shared-slice-read-plain c = search runs
+
+plain-requires : tie.Need-plain-requires Inv-loop μ-loop
+plain-requires c κs = search runs
+
+returns : tie.Need-returns Inv-loop μ-loop
+returns c = search runs
+
+add-i : tie.Need-add-i Inv-loop μ-loop
+add-i c = search runs
+
+loop-less : tie.Need-loop-less Inv-loop μ-loop
+loop-less c = search runs
+
+loop-again : tie.Need-loop-again Inv-loop μ-loop
+loop-again c = search runs
+
+returns-2 : tie.Need-returns-2 Inv-loop μ-loop
+returns-2 c = search runs
+
+pub plain-end-spec : {M : Type 1} → statement M
+plain-end-spec =
+    tie.close
+    (tie.spec
+    Inv-loop
+    μ-loop
+    loop-holds
+    shared-slice-read-plain
+    plain-requires
+    returns
+    add-i
+    loop-less
+    loop-again
+    returns-2)

@@ -1,0 +1,2 @@
+-- What the leaf calls of reading answer.
+pub mod Reads
