@@ -1,0 +1,131 @@
+//! Runs both programs over a text and says how their answers differ.
+
+use crate::case::{Answer, Case};
+use crate::random::Random;
+use std::fmt::Write;
+
+/// A program that reads past its text would meet these.
+const BEFORE: &[u8] = b"4\t0\tq\n1";
+const AFTER: &[u8] = b"\n3\t0\tq\n0\t0\tq\n";
+
+const SHOWN_BYTES: usize = 400;
+
+/// The code both give, or what is different.
+pub fn judge(case: &Case, random: &mut Random) -> Result<u32, String> {
+    let start = random.between(0, BEFORE.len());
+    let held = [&BEFORE[..start], &case.text, AFTER].concat();
+    let text = &held[start..start + case.text.len()];
+    let code = judge_check(text, case.expected)?;
+    let numbers = numbers_to_ask(text, random);
+    judge_content_places(text, &numbers)?;
+    judge_content(text, numbers[0])?;
+    Ok(code)
+}
+
+fn judge_check(text: &[u8], expected: Option<Answer>) -> Result<u32, String> {
+    let proved = proved_answer(bridge::check(text));
+    let second = second_answer(second::check(text));
+    if proved == second && expected.is_none_or(|expected| expected == second) {
+        return Ok(second.code);
+    }
+    let mut report = format!("check\n  proved   {proved:?}\n  second   {second:?}\n");
+    if let Some(expected) = expected {
+        let _ = writeln!(report, "  expected {expected:?}");
+    }
+    Err(report + &shown(text))
+}
+
+fn proved_answer(checked: bridge::Checked) -> Answer {
+    Answer {
+        code: checked.code,
+        line: checked.line,
+        count: checked.count,
+        depth: checked.depth,
+    }
+}
+
+fn second_answer(checked: second::Checked) -> Answer {
+    Answer {
+        code: checked.code,
+        line: checked.line,
+        count: checked.count,
+        depth: checked.depth,
+    }
+}
+
+/// The second program's table is read once for all the numbers.
+fn judge_content_places(text: &[u8], numbers: &[u32]) -> Result<(), String> {
+    let table = second::Table::read(text).ok();
+    for &number in numbers {
+        let proved = bridge::content_place(text, number);
+        let second = table
+            .as_ref()
+            .map_or(second::Part::default(), |table| table.content_place(number));
+        if (proved.start, proved.length) != (second.start, second.length) {
+            let report = format!("content of {number}\n  proved {proved:?}\n  second {second:?}\n");
+            return Err(report + &shown(text));
+        }
+    }
+    Ok(())
+}
+
+/// The part handed back is the caller's own bytes, at the place told. Asked
+/// after `judge_content_places`, so the part is known to lie in the text.
+fn judge_content(text: &[u8], number: u32) -> Result<(), String> {
+    let proved = bridge::content(text, number);
+    let second = second::content(text, number);
+    if proved.as_ptr_range() == second.as_ptr_range() {
+        return Ok(());
+    }
+    let place = |part: &[u8]| (part.as_ptr() as usize).wrapping_sub(text.as_ptr() as usize);
+    let report = format!(
+        "part of {number}\n  proved at {}, {} bytes\n  second at {}, {} bytes\n",
+        place(proved),
+        proved.len(),
+        place(second),
+        second.len(),
+    );
+    Err(report + &shown(text))
+}
+
+/// Numbers that stand in the text, if it is a table, with their neighbours and
+/// those that only differ above 16 bits; then some that hardly do.
+fn numbers_to_ask(text: &[u8], random: &mut Random) -> Vec<u32> {
+    let mut starts = vec![0];
+    starts.extend((1..text.len()).filter(|&place| text[place - 1] == b'\n'));
+    let any = random.pick(&starts);
+    let first = leading_digits(text, 0);
+    let last = leading_digits(text, starts[starts.len() - 1]);
+    let drawn = leading_digits(text, any);
+    vec![
+        drawn,
+        first,
+        last,
+        drawn.wrapping_add(1),
+        drawn.wrapping_add(65_536),
+        random.number() % 65_536,
+        0,
+        65_535,
+        65_536,
+        u32::MAX,
+    ]
+}
+
+fn leading_digits(text: &[u8], start: usize) -> u32 {
+    text[start.min(text.len())..]
+        .iter()
+        .take_while(|byte| byte.is_ascii_digit())
+        .fold(0, |value: u32, digit| {
+            value.wrapping_mul(10).wrapping_add(u32::from(digit - b'0'))
+        })
+}
+
+fn shown(text: &[u8]) -> String {
+    let cut = &text[..text.len().min(SHOWN_BYTES)];
+    let more = if cut.len() < text.len() { " ..." } else { "" };
+    format!(
+        "  text of {} bytes: \"{}\"{more}",
+        text.len(),
+        cut.escape_ascii()
+    )
+}
