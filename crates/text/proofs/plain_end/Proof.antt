@@ -1,4 +1,4 @@
--- `plain_end` meets its contract: i is the place reached. Assumes nothing.
+-- The proof of `plain_end`: i is the place reached, and the end from there is the end from the start. Assumes nothing.
 use mathlib.Core.Path.{_≡_}
 use Prim.Native.Nat.{_+_, _-_}
 use lib.ListN.{length, drop}
@@ -6,6 +6,10 @@ use Rattle.text.specs.Reads.{plainRun}
 use Rattle.text.proofs.Runs.{runs}
 use Rattle.text.proofs.plain_end.Statement.{statement}
 use Rattle.text.proofs.plain_end.Tie as tie
+use Rattle.text.proofs.plain_end.Reads as reads
+use Rattle.text.proofs.plain_end.Lts as lts
+use Rattle.text.proofs.plain.Reads as plain-reads
+use Rattle.text.proofs.plain_fours.Reads as plain-fours-reads
 
 abbrev Inv-loop : tie.InvT-loop
 Inv-loop s from i₀ i = i + plainRun (drop i s) ≡ from + plainRun (drop from s)
@@ -13,27 +17,39 @@ Inv-loop s from i₀ i = i + plainRun (drop i s) ≡ from + plainRun (drop from 
 abbrev μ-loop : tie.MeasureT-loop
 μ-loop s from i₀ i = length s - i
 
+-- src/lib.rt:64:9
+plain-fours-requires : tie.Need-plain-fours-requires Inv-loop μ-loop
+plain-fours-requires c κs = search runs
+
+-- src/lib.rt:65:5
 loop-holds : tie.Need-loop-holds Inv-loop μ-loop
 loop-holds c = search runs
 
+-- src/lib.rt:66:19
 shared-slice-read-plain : tie.Need-shared-slice-read-plain Inv-loop μ-loop
 shared-slice-read-plain c = search runs
 
+-- src/lib.rt:66:13
 plain-requires : tie.Need-plain-requires Inv-loop μ-loop
 plain-requires c κs = search runs
 
+-- src/lib.rt:67:13
 returns : tie.Need-returns Inv-loop μ-loop
 returns c = search runs
 
+-- src/lib.rt:69:9
 add-i : tie.Need-add-i Inv-loop μ-loop
 add-i c = search runs
 
+-- src/lib.rt:65:5
 loop-less : tie.Need-loop-less Inv-loop μ-loop
 loop-less c = search runs
 
+-- src/lib.rt:65:5
 loop-again : tie.Need-loop-again Inv-loop μ-loop
 loop-again c = search runs
 
+-- src/lib.rt:61:1
 returns-2 : tie.Need-returns-2 Inv-loop μ-loop
 returns-2 c = search runs
 
@@ -43,6 +59,7 @@ plain-end-spec =
     (tie.spec
     Inv-loop
     μ-loop
+    plain-fours-requires
     loop-holds
     shared-slice-read-plain
     plain-requires

@@ -1,0 +1,32 @@
+-- The proof of `all_plain`: what is left to prove is found among the laws of Runs. Assumes nothing.
+use Rattle.text.proofs.Runs.{runs}
+use borrow.Author.Needs.{needs}
+use Rattle.text.proofs.all_plain.Statement.{statement}
+use Rattle.text.proofs.all_plain.Tie as tie
+use Rattle.text.proofs.all_plain.Reads as reads
+use Rattle.text.proofs.all_plain.Lts as lts
+use Rattle.text.proofs.plain.Reads as plain-reads
+
+-- src/lib.rt:33:5
+plain-requires : tie.Need-plain-requires
+plain-requires c κs = search needs
+
+-- src/lib.rt:33:17
+plain-requires-2 : tie.Need-plain-requires-2
+plain-requires-2 c κs = search needs
+
+-- src/lib.rt:33:29
+plain-requires-3 : tie.Need-plain-requires-3
+plain-requires-3 c κs = search needs
+
+-- src/lib.rt:33:40
+plain-requires-4 : tie.Need-plain-requires-4
+plain-requires-4 c κs = search needs
+
+-- src/lib.rt:30:1
+returns : tie.Need-returns
+returns c = search runs
+
+pub all-plain-spec : {M : Type 1} → statement M
+all-plain-spec =
+    tie.close (tie.spec plain-requires plain-requires-2 plain-requires-3 plain-requires-4 returns)
