@@ -18,7 +18,7 @@ use Rattle.rules.specs.Table.{numbers}
 use Rattle.rules.specs.Tree.{childNumbers}
 use Rattle.rules.specs.Facts.{PositionFact, factsOf, listFacts, position}
 use Rattle.rules.specs.Demands.{Readable}
-use Rattle.trees.proofs.Lists.{or-left, or-right}
+use Rattle.trees.proofs.Lists.{or-left, or-right, is-true}
 use Rattle.trees.proofs.Marks.{record-low, record-high}
 use Rattle.trees.proofs.Disagreeing.{numberOf}
 use Rattle.trees.proofs.OneTable.{child-number, child-record, in-table, list-after, list-before, list-follower, list-in, list-of}
@@ -31,10 +31,6 @@ use Rattle.facts.proofs.Strings.{who-itself, strung-after, strung-befor
 use Rattle.facts.proofs.Views.{View, after-low, has-after}
 
 -- ---- tests
-
-is-true : (b : Bool) → T b → b ≡ true
-is-true true t = refl
-is-true false t = absurd t
 
 -- an answer was given
 cond-low : (b : Bool) (n : ℕ) → 0 < cond b n 0 → T b

@@ -13,11 +13,8 @@ use borrow.Author.Tests.{lt-ltb, le-ltb, ltb-true, ltb-false, ne-eqb}
 use Rattle.rules.specs.Lists.{every}
 use Rattle.rules.specs.Text.{digit, noLeadingZero, decimal, valueFrom, value}
 use Rattle.rules.specs.Written.{lastDigits, width, digits}
+use Rattle.trees.proofs.Lists.{is-true}
 use Rattle.readback.proofs.Splitting.{every-append, every-left, every-right}
-
-is-true : (b : Bool) → T b → b ≡ true
-is-true true h = refl
-is-true false h = absurd h
 
 -- ---- digits
 

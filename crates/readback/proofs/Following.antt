@@ -2,11 +2,13 @@
 -- lines. t is a table, `seen` are the rows of the lines before, x is a row, n a number. Assumes nothing.
 use mathlib.Core.Path.{_≡_, refl, sym, subst}
 use mathlib.Core.Logic.{_⊎_, inl, inr}
-use mathlib.Core.List.{List, [], _∷_, _++_, map-append, List·Memᴰ·head as here, List·Memᴰ·tail as there, Memᴰ·cast, Memᴰ·append-left}
+use mathlib.Core.List.{List, [], _∷_, _++_, append-nil, map-append, List·Memᴰ·head as here, List·Memᴰ·tail as there, Memᴰ·cast}
+use mathlib.Core.List.{Memᴰ·append-left}
 use mathlib.Core.List.{Memᴰ·append-right, List·Memᴰ·append-cases, List·Memᴰ·not-nil}
 use Prim.Native.Nat.{ℕ, _+_, _<_, _≤_}
 use native.Mathlib.Omega.{arith}
 use lib.ListN.{length, length-append}
+use lib.Seq.{append-snoc}
 use lib.Dec.{T}
 use Rattle.rules.specs.Limits.{LINES, GREATEST}
 use Rattle.rules.specs.Lists.{_∈_, NoneTwice}
@@ -49,6 +51,12 @@ module _ (seen : List Row) (x : Row) where
       go (inl k) = inl k
       go (inr (here e)) = inr e
       go (inr (there k)) = absurd (List·Memᴰ·not-nil k)
+
+-- a row that may follow all of them comes last
+pub good-more : (above t : List Row) (x : Row) → Good above t → Follows (above ++ t) x → Good above (t ++ (x ∷ []))
+good-more above [] x g f = (subst (λ (s : List Row). Follows s x) (append-nil above) f, tt)
+good-more above (y ∷ t) x g f =
+    (g .0, good-more (above ++ (y ∷ [])) t x (g .1) (subst (λ (s : List Row). Follows s x) (sym (append-snoc above y t)) f))
 
 -- ---- what such rows are
 

@@ -106,6 +106,13 @@ after-left b (x ∷ s) = go (eqb x b) (after-left b s)
         let e : suc (length s) - length (after b s) ≡ suc (length s - length (after b s)) = omega (arith, after-le b s) in
         rw e ih
 
+-- what stands after the byte is what is left behind it
+pub after-drop : (b : ℕ) (s : List ℕ) → after b s ≡ drop (suc (length (before b s))) s
+after-drop b [] = refl
+after-drop b (x ∷ s) =
+    let ih : after b s ≡ drop (suc (length (before b s))) s = after-drop b s in
+    elim (eqb x b) as (λ u. cond u s (after b s) ≡ drop (suc (length (cond u [] (x ∷ before b s)))) (x ∷ s)) [ true ↦ refl | false ↦ ih ]
+
 -- a text is what stands before the byte, and what is left
 pub before-left : (b : ℕ) (s : List ℕ) → s ≡ before b s ++ drop (length (before b s)) s
 before-left b [] = refl

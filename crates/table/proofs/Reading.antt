@@ -2,15 +2,15 @@
 -- and fs are the two arrays, l is what is told of the line at the place reached. Assumes nothing.
 use mir.Facts.{ltb-yes, yes-ltb}
 use mathlib.Core.Path.{_≡_, refl, sym, ap, _∙_, subst}
-use mathlib.Core.Bool.{Bool, true, false, cond, not, _&&_, _||_}
-use mathlib.Core.List.{List, [], _∷_, _++_, append-nil}
-use Prim.Native.Nat.{ℕ, suc, _+_, _-_, _<_, _≤_}
+use mathlib.Core.Bool.{Bool, true, false, cond}
+use mathlib.Core.List.{List, [], _∷_, _++_}
+use Prim.Native.Nat.{ℕ, _+_, _-_, _<_, _≤_}
 use native.Mathlib.Omega.{arith}
 use native.Mathlib.Numerals.{add-one}
 use native.Mathlib.Decide.{ℕ-discrete}
 use lib.Dec.{T, eqb, ltb}
 use lib.ListN.{length, drop, length-append, length-drop, drop-of-length-le}
-use lib.Seq.{drop-drop, append-snoc}
+use lib.Seq.{drop-drop}
 use borrow.Author.Tests.{eqb-true, eq-eqb, ne-eqb, le-ltb, lt-ltb}
 use Rattle.rules.specs.Limits.{BYTES}
 use Rattle.rules.specs.Codes.{accepted, textTooLong, unended}
@@ -20,6 +20,7 @@ use Rattle.rules.specs.Text.{LF, count, before, after, lines, ended}
 use Rattle.rules.specs.Line.{Row, rowOf, contentPart, lineFault}
 use Rattle.rules.specs.Table.{numbers, stands, fault, Verdict, readable, unreadable, readLines, verdict}
 use Rattle.rules.specs.Calls.{partFrom, partOf}
+use Rattle.trees.proofs.Lists.{is-true, is-false, same-test, not-or}
 use Rattle.facts.specs.Asked.{hasIn}
 use Rattle.facts.specs.Holds.{Holds, partAt}
 use Rattle.facts.proofs.Adding.{Added}
@@ -27,22 +28,10 @@ use Rattle.rules.specs.declared.answers.Part.{Part}
 use Rattle.line.specs.declared.Line.{Line}
 use Rattle.line.specs.Told.{nextLine, good}
 use Rattle.line.proofs.Telling.{told-fault, told-row}
-use Rattle.readback.proofs.Splitting.{lines-step, before-lt, ended-after}
-use Rattle.readback.proofs.Following.{Good, Follows, seen-last}
+use Rattle.readback.proofs.Splitting.{lines-step, before-lt, ended-after, after-drop}
+use Rattle.readback.proofs.Following.{Good, Follows, seen-last, good-more}
 use Rattle.readback.proofs.Faults.{stands-in, in-stands, fault-follows, fault-rules, no-line-fault}
 use Rattle.table.specs.Read.{told, readTold, faultIn, Reads}
-
--- what stands after the byte is what is left behind it
-after-drop : (b : ℕ) (s : List ℕ) → after b s ≡ drop (suc (length (before b s))) s
-after-drop b [] = refl
-after-drop b (x ∷ s) =
-    let ih : after b s ≡ drop (suc (length (before b s))) s = after-drop b s in
-    elim (eqb x b) as (λ u. cond u s (after b s) ≡ drop (suc (length (cond u [] (x ∷ before b s)))) (x ∷ s)) [ true ↦ refl | false ↦ ih ]
-
-good-more : (above t : List Row) (x : Row) → Good above t → Follows (above ++ t) x → Good above (t ++ (x ∷ []))
-good-more above [] x g f = (subst (λ (s : List Row). Follows s x) (append-nil above) f, tt)
-good-more above (y ∷ t) x g f =
-    (g .0, good-more (above ++ (y ∷ [])) t x (g .1) (subst (λ (s : List Row). Follows s x) (sym (append-snoc above y t)) f))
 
 -- ---- at a line's start
 
@@ -85,24 +74,6 @@ pub not-ended : (text ls fs : List ℕ) (n : ℕ) → length text ≤ BYTES → 
 not-ended text ls fs n h e q = refused text ls fs unended n (rw (le-ltb BYTES (length text) h, e, q))
 
 -- ---- tests of memory and tests of the rows
-
-same-test : (a b : Bool) → (T a → T b) → (T b → T a) → a ≡ b
-same-test true true f g = refl
-same-test true false f g = absurd (f tt)
-same-test false true f g = absurd (g tt)
-same-test false false f g = refl
-
-is-yes : (b : Bool) → T b → b ≡ true
-is-yes true t = refl
-is-yes false t = absurd t
-
-is-no : (b : Bool) → (T b → ⊥) → b ≡ false
-is-no true f = absurd (f tt)
-is-no false f = refl
-
-not-or : (a b : Bool) → not (a || b) ≡ (not a && not b)
-not-or true b = refl
-not-or false b = refl
 
 -- a number has a line exactly if it stands on one
 pub has-stands : (ls fs : List ℕ) (t : List Row) → Holds ls fs t → (n : ℕ) → hasIn ls n ≡ stands n t
@@ -189,7 +160,7 @@ module _ (text ls fs : List ℕ) (place c : ℕ) (g : Reading text place ls fs c
       this-part = record { start = place + (length line - length (contentPart line)); length = length (contentPart line) }
 
       not-yet : hasIn ls (row .number) ≡ false
-      not-yet = is-no (hasIn ls (row .number)) (λ t. follows .new (g .holds .only (row .number) (ltb-yes t)))
+      not-yet = is-false (hasIn ls (row .number)) (λ t. follows .new (g .holds .only (row .number) (ltb-yes t)))
 
       -- the part of the line's own number
       own : cond (hasIn ls (row .number)) (partAt ls fs (row .number)) (partFrom (row .number) place (line ∷ lines (after LF rest)))
@@ -198,7 +169,7 @@ module _ (text ls fs : List ℕ) (place c : ℕ) (g : Reading text place ls fs c
           let told-here : partFrom (row .number) place (line ∷ lines (after LF rest)) ≡ this-part =
           rw (eq-eqb (row .number) (row .number) refl) in
           let known : hasIn ls′ (row .number) ≡ true =
-          is-yes (hasIn ls′ (row .number)) (yes-ltb (w .holds .known (row .number) (seen-last (g .seen) row (row .number) refl))) in
+          is-true (hasIn ls′ (row .number)) (yes-ltb (w .holds .known (row .number) (seen-last (g .seen) row (row .number) refl))) in
           ap (λ (b : Bool). cond b (partAt ls fs (row .number)) (partFrom (row .number) place (line ∷ lines (after LF rest)))) not-yet
           ∙ told-here ∙ (λ i. record { start = place + sym is-good i .start; length = sym is-good i .length }) ∙ sym (w .part-new)
           ∙ ap (λ (b : Bool). cond b (partAt ls′ fs′ (row .number)) (next-parts (row .number))) (sym known)
@@ -249,7 +220,7 @@ finish text ls fs place c g h = record {
   answered = ap (told accepted 0) (g .counted) ∙ ap readTold all;
   held = λ t q. subst (Holds ls fs) (rows t q) (g .holds);
   placed = λ t q n m. sym (ap (λ (v : Verdict). partOf v text n) (sym all)
-      ∙ g .parts n ∙ rw (is-yes (hasIn ls n) (yes-ltb (g .holds .known n (subst (λ (u : List Row). n ∈ numbers u) (sym (rows t q)) m)))));
+      ∙ g .parts n ∙ rw (is-true (hasIn ls n) (yes-ltb (g .holds .known n (subst (λ (u : List Row). n ∈ numbers u) (sym (rows t q)) m)))));
 }
   where
     none : drop place text ≡ []

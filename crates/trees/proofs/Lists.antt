@@ -2,7 +2,7 @@
 -- them, `test` a test. Assumes nothing.
 use mathlib.Core.Path.{_≡_, refl, sym, ap, subst}
 use mathlib.Core.Logic.{_⊎_, inl, inr}
-use mathlib.Core.Bool.{Bool, true, false, not, _||_}
+use mathlib.Core.Bool.{Bool, true, false, not, _&&_, _||_}
 use mathlib.Core.List.{List, [], _∷_, _++_, List·Memᴰ·head as here, List·Memᴰ·tail as there, List·Memᴰ·append-cases, Memᴰ·append-left}
 use mathlib.Core.List.{Memᴰ·append-right, List·Memᴰ·not-nil}
 use lib.Dec.{T}
@@ -23,6 +23,25 @@ or-right false b t = t
 pub either : (b : Bool) → T b ⊎ T (not b)
 either true = inl tt
 either false = inr tt
+
+pub is-true : (b : Bool) → T b → b ≡ true
+is-true true t = refl
+is-true false t = absurd t
+
+pub is-false : (b : Bool) → (T b → ⊥) → b ≡ false
+is-false true f = absurd (f tt)
+is-false false f = refl
+
+-- two tests that pass together are one
+pub same-test : (a b : Bool) → (T a → T b) → (T b → T a) → a ≡ b
+same-test true true f g = refl
+same-test true false f g = absurd (f tt)
+same-test false true f g = absurd (g tt)
+same-test false false f g = refl
+
+pub not-or : (a b : Bool) → not (a || b) ≡ (not a && not b)
+not-or true b = refl
+not-or false b = refl
 
 -- what cannot fail passes
 pub cannot-fail : (b : Bool) → (T (not b) → ⊥) → T b

@@ -119,7 +119,8 @@ depth-depth-requires t c κs =
     let s = c .before .before .before .before .before .before in
     let climbs = s .pre .1 .0 in
     let below = up-lt _ _ _ _ climbs (c .before .before .before .before .before .if1 .left) (c .before .up-line .ensures) in
-    (omega (arith, below, s .pre .0), (climbs-up _ _ _ _ climbs (c .before .before .before .before .before .if1 .left) (c .before .up-line .ensures), s .pre .1 .1))
+    let up = climbs-up _ _ _ _ climbs (c .before .before .before .before .before .if1 .left) (c .before .up-line .ensures) in
+    (omega (arith, below, s .pre .0), (up, s .pre .1 .1))
 
 -- src/lib.rt:37:13
 depth-add-d : (t : ℕ) → depth-lts.Need-add-d (
@@ -133,8 +134,9 @@ depth-add-d : (t : ℕ) → depth-lts.Need-add-d (
   notes-reads.Learnt,
 ) (depth-at t) depth.Post
 depth-add-d t c =
-    let s = c .before .before .before .before .before .before .before in
-    let below = up-lt _ _ _ _ (s .pre .1 .0) (c .before .before .before .before .before .before .if1 .left) (c .before .before .up-line .ensures) in
+    let u = c .before .before in
+    let s = u .before .before .before .before .before in
+    let below = up-lt _ _ _ _ (s .pre .1 .0) (u .before .before .before .before .if1 .left) (u .up-line .ensures) in
     record { fits = omega (arith, below, s .pre .1 .0 .room, c .depth .ensures .1 .0) }
 
 -- src/lib.rt:38:5
@@ -162,8 +164,9 @@ depth-cast-noted : (t : ℕ) → depth-lts.Need-cast-noted (
   notes-reads.Learnt,
 ) (depth-at t) depth.Post
 depth-cast-noted t c =
-    let s = c .before .before .before .before .before .before .before .before .before in
-    let below = up-lt _ _ _ _ (s .pre .1 .0) (c .before .before .before .before .before .before .before .before .if1 .left) (c .before .before .before .before .up-line .ensures) in
+    let u = c .before .before .before .before in
+    let s = u .before .before .before .before .before in
+    let below = up-lt _ _ _ _ (s .pre .1 .0) (u .before .before .before .before .if1 .left) (u .up-line .ensures) in
     record { fits = omega (arith, below, s .pre .1 .0 .room, c .before .before .depth .ensures .1 .0) }
 
 -- src/lib.rt:39:5
@@ -177,7 +180,9 @@ depth-mul-noted : (t : ℕ) → depth-lts.Need-mul-noted (
   notes-reads.Asked,
   notes-reads.Learnt,
 ) (depth-at t) depth.Post
-depth-mul-noted t c = let h = c .before .before .before .before .before .before .before .before .before .pre .1 .0 .room in record { fits = omega (arith, h) }
+depth-mul-noted t c =
+    let h = c .before .before .before .before .before .before .before .before .before .pre .1 .0 .room in
+    record { fits = omega (arith, h) }
 
 -- src/lib.rt:39:5
 depth-element-write-noted : (t : ℕ) → depth-lts.Need-element-write-noted (
