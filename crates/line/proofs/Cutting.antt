@@ -1,9 +1,10 @@
--- A line cut into its parts, each way through: which byte ended it too early, or where its tabs and its end stand. s is what is left of
--- the text, l the line without its LF, p and q its first two parts, c its content, x, y and z the bytes that ended a run. Assumes nothing.
+-- A line cut into its parts, each way through: which byte ended it too early, or what its first two parts write and where its content
+-- lies. s is what is left of the text, l the line without its LF, p and q its first two parts, c its content, x, y and z the bytes that
+-- ended a run. Assumes nothing.
 use mathlib.Core.Path.{_≡_, refl, sym, ap, _∙_}
 use mathlib.Core.Bool.{Bool, true, false, cond, not, true≢false}
 use mathlib.Core.List.{List, [], _∷_, _++_, append-nil}
-use Prim.Native.Nat.{ℕ, suc, _+_, _-_, _<_, _≤_}
+use Prim.Native.Nat.{ℕ, suc, _+_, _<_, _≤_}
 use native.Mathlib.Omega.{arith}
 use lib.Dec.{T, eqb, ltb}
 use lib.ListN.{length, getD, take, drop, length-append}
@@ -14,12 +15,14 @@ use Rattle.rules.specs.Codes.{accepted, byteNotAllowed, fewTabs}
 use Rattle.rules.specs.Lists.{every}
 use Rattle.rules.specs.Line.{numberPart, parentPart, contentPart}
 use Rattle.rules.specs.Text.{TAB, LF, allowed, count, before, after, fields, filled}
-use Rattle.text.specs.Reads.{plain, plainRun}
+use Rattle.text.specs.Reads.{plain, plainRun, numberIn, numberAt}
+use Rattle.text.specs.declared.Number.{Number}
 use Rattle.line.specs.Parts.{byteAt, shortFault, allowedRun, fieldsFrom, shapeFault, noParts, goodParts, partsOf}
 use Rattle.line.specs.declared.Fields.{Fields}
 use Rattle.line.specs.declared.Parts.{Parts}
 use Rattle.line.proofs.PlainBytes.{before-plain, after-plain, count-plain, allowed-plain}
 use Rattle.line.proofs.Places.{byte-first, part, Tabbed, part-plain, part-left, byte-stops, left-byte, tabbed}
+use Rattle.line.proofs.Places.{number-end, part-number}
 
 -- ---- what is answered for a code
 
@@ -176,23 +179,31 @@ line-tab : (s : List ℕ) (from end : ℕ) → Tabbed s from end
     → before LF (drop from s) ≡ part s from end ++ (TAB ∷ before LF (drop (end + 1) s))
 line-tab s from end g = ap (before LF) (g .parted) ∙ before-plain LF tt (part s from end) (TAB ∷ drop (end + 1) s) (g .bytes)
 
-module _ (s : List ℕ) (first x : ℕ) (e : first ≡ 0 + plainRun (drop 0 s)) (b : x ≡ byteAt s first) where
+module _ (s : List ℕ) (number : Number) (x : ℕ) (e : number ≡ numberAt s 0) (b : x ≡ byteAt s (number .end)) where
+  -- the place of the first tab
+  abbrev first : ℕ
+  first = number .end
+
   -- it ends before its first tab, before its second, with a byte that is not allowed, or with its LF
   pub cut-first : (code : ℕ) (r : Parts) → (x ≡ TAB → ⊥) → code ≡ shortFault x → r ≡ noParts code → r ≡ partsOf (before LF s)
   cut-first code r n f g =
-      let h = short s 0 first x e b n in
+      let h = short s 0 first x (number-end s 0 number e) b n in
       let shape : shapeFault (before LF s) ≡ shortFault x = shape-short (before LF s) x (h .all) (λ q. omega (arith, h .none q)) in
       g ∙ ap noParts f ∙ refused (before LF s) (shortFault x) shape (short-real x)
 
-  module _ (t : x ≡ TAB) (second y : ℕ) (e₂ : second ≡ first + 1 + plainRun (drop (first + 1) s)) (b₂ : y ≡ byteAt s second) where
+  module _ (t : x ≡ TAB) (parent : Number) (y : ℕ) (e₂ : parent ≡ numberAt s (first + 1)) (b₂ : y ≡ byteAt s (parent .end)) where
+    -- the place of the second tab
+    abbrev second : ℕ
+    second = parent .end
+
+    one : Tabbed s 0 first
+    one = tabbed s 0 first x (number-end s 0 number e) b t
+
     pub cut-second : (code : ℕ) (r : Parts) → (y ≡ TAB → ⊥) → code ≡ shortFault y → r ≡ noParts code → r ≡ partsOf (before LF s)
     cut-second code r n f g = g ∙ ap noParts f ∙ refused (before LF s) (shortFault y) shape (short-real y)
       where
-        one : Tabbed s 0 first
-        one = tabbed s 0 first x e b t
-
         h : Short (before LF (drop (first + 1) s)) y
-        h = short s (first + 1) second y e₂ b₂ n
+        h = short s (first + 1) second y (number-end s (first + 1) parent e₂) b₂ n
 
         l : List ℕ
         l = part s 0 first ++ (TAB ∷ before LF (drop (first + 1) s))
@@ -208,20 +219,22 @@ module _ (s : List ℕ) (first x : ℕ) (e : first ≡ 0 + plainRun (drop 0 s)) 
 
     module _ (t₂ : y ≡ TAB) (content : Fields) (z : ℕ) (e₃ : content ≡ fieldsFrom true (second + 1) (drop (second + 1) s))
         (b₃ : z ≡ byteAt s (content .end)) where
-      one : Tabbed s 0 first
-      one = tabbed s 0 first x e b t
-
       two : Tabbed s (first + 1) second
-      two = tabbed s (first + 1) second y e₂ b₂ t₂
+      two = tabbed s (first + 1) second y (number-end s (first + 1) parent e₂) b₂ t₂
+
+      -- its first two parts
+      abbrev front : List ℕ
+      front = part s 0 first
+
+      abbrev middle : List ℕ
+      middle = part s (first + 1) second
 
       abbrev u : List ℕ
       u = drop (second + 1) s
 
       -- the line as its tabs part it
-      line-is : before LF s ≡ joined (part s 0 first) (part s (first + 1) second) (before LF u)
-      line-is =
-          line-tab s 0 first one
-          ∙ ap (λ (r : List ℕ). part s 0 first ++ (TAB ∷ r)) (line-tab s (first + 1) second two)
+      line-is : before LF s ≡ joined front middle (before LF u)
+      line-is = line-tab s 0 first one ∙ ap (λ (r : List ℕ). front ++ (TAB ∷ r)) (line-tab s (first + 1) second two)
 
       last-byte : z ≡ getD u (allowedRun u) LF
       last-byte = b₃ ∙ ap (λ (f : Fields). byteAt s (f .end)) e₃ ∙ sym (getD-drop (second + 1) s (allowedRun u) LF)
@@ -232,46 +245,62 @@ module _ (s : List ℕ) (first x : ℕ) (e : first ≡ 0 + plainRun (drop 0 s)) 
           shape : shapeFault (before LF s) ≡ byteNotAllowed
           shape =
               ap shapeFault line-is
-              ∙ shape-content (part s 0 first) (part s (first + 1) second) (before LF u) (one .bytes) (two .bytes) false
-              (allowed-stopped u (λ q. n (last-byte ∙ q)))
+              ∙ shape-content front middle (before LF u) (one .bytes) (two .bytes) false (allowed-stopped u (λ f. n (last-byte ∙ f)))
 
       -- a line without a fault of its bytes and tabs
       abbrev whole : List ℕ
-      whole = joined (part s 0 first) (part s (first + 1) second) (take (allowedRun u) u)
+      whole = joined front middle (take (allowedRun u) u)
 
       whole-is : z ≡ LF → before LF s ≡ whole
-      whole-is q =
-          line-is ∙ ap (joined (part s 0 first) (part s (first + 1) second)) (allowed-ended u (sym last-byte ∙ q))
+      whole-is f = line-is ∙ ap (joined front middle) (allowed-ended u (sym last-byte ∙ f))
 
       whole-shape : shapeFault whole ≡ accepted
-      whole-shape =
-          shape-content (part s 0 first) (part s (first + 1) second) (take (allowedRun u) u) (one .bytes) (two .bytes) true (allowed-all u)
+      whole-shape = shape-content front middle (take (allowedRun u) u) (one .bytes) (two .bytes) true (allowed-all u)
 
       -- the parts as they were found
       abbrev found : Parts
-      found = record { code = accepted; first = first; second = second; end = content .end; filled = content .filled }
+      found =
+          record {
+            code = accepted;
+            number = number .value;
+            parent = parent .value;
+            start = second + 1;
+            end = content .end;
+            filled = content .filled;
+          }
 
       whole-parts : found ≡ goodParts whole
-      whole-parts = λ i. record { code = accepted; first = tab i; second = next-tab i; end = finish i; filled = all i }
+      whole-parts =
+          λ i. record {
+            code = accepted;
+            number = own i;
+            parent = above i;
+            start = start i;
+            end = finish i;
+            filled = all i;
+          }
         where
-          number : numberPart whole ≡ part s 0 first
-          number = first-part (part s 0 first) (part s (first + 1) second) (take (allowedRun u) u) (one .bytes) (two .bytes)
+          number-is : numberPart whole ≡ front
+          number-is = first-part front middle (take (allowedRun u) u) (one .bytes) (two .bytes)
 
-          parent : parentPart whole ≡ part s (first + 1) second
-          parent = second-part (part s 0 first) (part s (first + 1) second) (take (allowedRun u) u) (one .bytes) (two .bytes)
+          parent-is : parentPart whole ≡ middle
+          parent-is = second-part front middle (take (allowedRun u) u) (one .bytes) (two .bytes)
 
-          tab : first ≡ length (numberPart whole)
-          tab = omega (arith, ap length number, one .long)
+          own : number .value ≡ numberIn (numberPart whole)
+          own = part-number s 0 number e ∙ ap numberIn (sym number-is)
 
-          next-tab : second ≡ length (numberPart whole) + 1 + length (parentPart whole)
-          next-tab = omega (arith, ap length number, ap length parent, one .long, two .long, two .low)
+          above : parent .value ≡ numberIn (parentPart whole)
+          above = part-number s (first + 1) parent e₂ ∙ ap numberIn (sym parent-is)
+
+          start : second + 1 ≡ length (numberPart whole) + 1 + length (parentPart whole) + 1
+          start = omega (arith, ap length number-is, ap length parent-is, one .long, two .long, two .low)
 
           finish : content .end ≡ length whole
           finish =
               omega (
                 arith,
                 ap (λ (f : Fields). f .end) e₃,
-                joined-long (part s 0 first) (part s (first + 1) second) (take (allowedRun u) u) (one .bytes) (two .bytes),
+                joined-long front middle (take (allowedRun u) u) (one .bytes) (two .bytes),
                 one .long,
                 two .long,
                 two .low,
@@ -282,9 +311,9 @@ module _ (s : List ℕ) (first x : ℕ) (e : first ≡ 0 + plainRun (drop 0 s)) 
           all =
               ap (λ (f : Fields). f .filled) e₃
               ∙ ap (λ (r : List ℕ). every filled (fields r))
-              (sym (last-part (part s 0 first) (part s (first + 1) second) (take (allowedRun u) u) (one .bytes) (two .bytes)))
+              (sym (last-part front middle (take (allowedRun u) u) (one .bytes) (two .bytes)))
 
       pub cut-good : z ≡ LF → found ≡ partsOf (before LF s)
-      cut-good q = whole-parts ∙ kept whole whole-shape ∙ ap partsOf (sym (whole-is q))
+      cut-good f = whole-parts ∙ kept whole whole-shape ∙ ap partsOf (sym (whole-is f))
 
 pub ruleset cuts = (cut-first, cut-second, cut-third, cut-good, needs)

@@ -1,5 +1,5 @@
--- The faults of a line's parts, in their order, and its row. s is what is left of the text, l the line without its LF, `parts` the
--- places of its parts, p a part that writes a number, n the number read there. Assumes nothing.
+-- The faults of a line's parts, in their order, and its row. s is what is left of the text, l the line without its LF, `parts` what was
+-- found of its parts, p a part that writes a number, n the number read there. Assumes nothing.
 use mathlib.Core.Path.{_≡_, refl, sym, ap, _∙_}
 use mathlib.Core.Bool.{Bool, true, false, cond, not, _&&_, true≢false}
 use mathlib.Core.List.{List}
@@ -7,6 +7,7 @@ use Prim.Native.Nat.{ℕ, min, _+_, _-_, _<_, _≤_}
 use native.Mathlib.Omega.{arith}
 use lib.Dec.{eqb, leb, ltb}
 use lib.ListN.{length, take, drop}
+use borrow.Author.Needs.{needs}
 use borrow.Author.Tests.{ne-eqb, le-leb, lt-leb, leb-true, leb-false, not-false}
 use Rattle.rules.specs.Codes.{accepted, byteNotAllowed, fewTabs, badNumber, badParent, badContent}
 use Rattle.rules.specs.Limits.{GREATEST}
@@ -20,7 +21,7 @@ use Rattle.line.specs.Parts.{contentFits, shapeFault, noParts, goodParts
 use Rattle.line.specs.Told.{faulty, good, lineTold, nextLine}
 use Rattle.line.specs.declared.Line.{Line}
 use Rattle.line.specs.declared.Parts.{Parts}
-use Rattle.line.proofs.Parting.{Cut}
+use Rattle.line.proofs.Parting.{Cut, cut-is}
 
 -- ---- what is told of a line with a fault, and of one without
 
@@ -106,15 +107,15 @@ module _ (p : List ℕ) (n : ℕ) (e : n ≡ numberIn p) where
 -- ---- the ways through reading a line
 
 -- the parts are cut and the number is good, and then the parent
-pub record Numbered (s : List ℕ) (parts : Parts) (n : ℕ) : Type 0 where
+pub record Numbered (s : List ℕ) (parts : Parts) : Type 0 where
   pub cut : Cut s parts
   pub ok : numberOk (numberPart (before LF s)) ≡ true
-  pub is : n ≡ value (numberPart (before LF s))
+  pub is : parts .number ≡ value (numberPart (before LF s))
 
-pub record Parented (s : List ℕ) (parts : Parts) (n p : ℕ) : Type 0 where
-  pub number : Numbered s parts n
+pub record Parented (s : List ℕ) (parts : Parts) : Type 0 where
+  pub number : Numbered s parts
   pub ok : parentOk (parentPart (before LF s)) ≡ true
-  pub is : p ≡ value (parentPart (before LF s))
+  pub is : parts .parent ≡ value (parentPart (before LF s))
 
 module _ (s : List ℕ) (parts : Parts) where
   abbrev l : List ℕ
@@ -134,38 +135,36 @@ module _ (s : List ℕ) (parts : Parts) where
   judged-is : Cut s parts → lineFault l ≡ judged (numberOk (numberPart l)) (parentOk (parentPart l)) (contentOk (contentPart l))
   judged-is k = fault-judged l (k .shape)
 
-  -- m is n as a record's number, u whether it may be one
-  module _ (n m : ℕ) (u : Bool) (k : Cut s parts) (e : n ≡ numberIn (take (parts .first) s)) (f : m ≡ n) (g : u ≡ isRecord m) where
+  -- n is the number as a record's, u whether it may be one
+  module _ (n : ℕ) (u : Bool) (k : Cut s parts) (f : n ≡ parts .number) (g : u ≡ isRecord n) where
     number-tested : u ≡ numberOk (numberPart l)
-    number-tested = g ∙ ap isRecord f ∙ number-ok (numberPart l) n (e ∙ ap numberIn (k .number))
+    number-tested = g ∙ ap isRecord f ∙ number-ok (numberPart l) (parts .number) (k .number)
 
     pub judge-number : (r : Line) → not u ≡ true → r ≡ faulty badNumber → r ≡ nextLine s
     judge-number r h q = q ∙ told-faulty l badNumber (judged-is k ∙ rw (← number-tested, h)) (λ z. absurd (omega (arith, z)))
 
-    pub numbered : not u ≡ false → Numbered s parts n
+    pub numbered : not u ≡ false → Numbered s parts
     numbered h =
         let ok : numberOk (numberPart l) ≡ true = sym number-tested ∙ not-false u h in
-        record { cut = k; ok = ok; is = number-is (numberPart l) n (e ∙ ap numberIn (k .number)) ok }
+        record { cut = k; ok = ok; is = number-is (numberPart l) (parts .number) (k .number) ok }
 
-  module _ (n p : ℕ) (a : Numbered s parts n)
-      (e : p ≡ numberIn (take (parts .second - (parts .first + 1)) (drop (parts .first + 1) s))) where
-    parent-read : p ≡ numberIn (parentPart l)
-    parent-read = e ∙ ap numberIn (a .cut .parent)
+  module _ (a : Numbered s parts) where
+    parent-tested : leb (parts .parent) GREATEST ≡ parentOk (parentPart l)
+    parent-tested = parent-ok (parentPart l) (parts .parent) (a .cut .parent)
 
-    parent-tested : leb p GREATEST ≡ parentOk (parentPart l)
-    parent-tested = parent-ok (parentPart l) p parent-read
-
-    pub judge-parent : (r : Line) → GREATEST < p → r ≡ faulty badParent → r ≡ nextLine s
+    pub judge-parent : (r : Line) → GREATEST < parts .parent → r ≡ faulty badParent → r ≡ nextLine s
     judge-parent r h q =
-        q ∙ told-faulty l badParent (judged-is (a .cut) ∙ rw (a .ok, ← parent-tested, lt-leb p GREATEST h)) (λ z. absurd (omega (arith, z)))
+        q
+        ∙ told-faulty l badParent (judged-is (a .cut) ∙ rw (a .ok, ← parent-tested, lt-leb (parts .parent) GREATEST h))
+        (λ z. absurd (omega (arith, z)))
 
-    pub parented : p ≤ GREATEST → Parented s parts n p
+    pub parented : parts .parent ≤ GREATEST → Parented s parts
     parented h =
-        let ok : parentOk (parentPart l) ≡ true = sym parent-tested ∙ le-leb p GREATEST h in
-        record { number = a; ok = ok; is = parent-is (parentPart l) p parent-read ok }
+        let ok : parentOk (parentPart l) ≡ true = sym parent-tested ∙ le-leb (parts .parent) GREATEST h in
+        record { number = a; ok = ok; is = parent-is (parentPart l) (parts .parent) (a .cut .parent) ok }
 
   -- `long` is the content's length, u whether the content keeps its rule
-  module _ (n p long : ℕ) (u : Bool) (a : Parented s parts n p) (d : long ≡ parts .end - (parts .second + 1))
+  module _ (long : ℕ) (u : Bool) (a : Parented s parts) (d : long ≡ parts .end - parts .start)
       (e : u ≡ contentFits long (parts .filled)) where
     cut : Cut s parts
     cut = a .number .cut
@@ -182,8 +181,8 @@ module _ (s : List ℕ) (parts : Parts) where
     pub judge-content : (r : Line) → not u ≡ true → r ≡ faulty badContent → r ≡ nextLine s
     judge-content r h q = q ∙ told-faulty l badContent (content-judged ∙ rw h) (λ z. absurd (omega (arith, z)))
 
-    start-is : parts .second + 1 ≡ length l - length (contentPart l)
-    start-is = omega (arith, cut .content, cut .long, cut .middle)
+    start-is : parts .start ≡ length l - length (contentPart l)
+    start-is = omega (arith, cut .content, cut .long, cut .low)
 
     next-is : parts .end + 1 ≡ length l + 1
     next-is = ap (λ (x : ℕ). x + 1) (cut .long)
@@ -192,9 +191,9 @@ module _ (s : List ℕ) (parts : Parts) where
     row =
         record {
           code = accepted;
-          number = n;
-          parent = p;
-          start = parts .second + 1;
+          number = parts .number;
+          parent = parts .parent;
+          start = parts .start;
           length = long;
           next = parts .end + 1;
         }
@@ -212,6 +211,8 @@ module _ (s : List ℕ) (parts : Parts) where
 
     pub row-told : not u ≡ false → row ≡ nextLine s
     row-told h = row-is ∙ told-good l (content-judged ∙ rw h)
+
+pub ruleset judges = (cut-is, judge-shape, judge-number, numbered, judge-parent, parented, judge-content, row-told, needs)
 
 -- ---- the line at a place
 

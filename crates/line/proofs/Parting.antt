@@ -1,32 +1,31 @@
--- Where the parts of a line lie whose bytes are allowed and that has two tabs. s is what is left of the text, l the line without its LF,
--- `parts` the places of its parts, p a part, r and t what is left. Assumes nothing.
+-- The parts of a line whose bytes are allowed and that has two tabs. s is what is left of the text, l the line without its LF, `parts`
+-- what was found of its parts. Assumes nothing.
 use mathlib.Core.Path.{_≡_, refl, sym, ap, _∙_, subst}
 use mathlib.Core.Bool.{Bool, true, false, cond, not}
-use mathlib.Core.List.{List, [], _∷_, _++_, append-assoc}
+use mathlib.Core.List.{List, _∷_, _++_}
 use Prim.Native.Nat.{ℕ, _+_, _-_, _≤_}
 use native.Mathlib.Omega.{arith}
 use lib.Dec.{eqb, ltb}
-use lib.ListN.{length, take, drop, length-append}
-use lib.Seq.{take-at, drop-at, append-snoc, length-take-le}
+use lib.ListN.{length, drop, length-append}
 use borrow.Author.Tests.{eqb-true, eqb-false, ltb-false}
 use Rattle.rules.specs.Codes.{accepted, byteNotAllowed, fewTabs}
 use Rattle.rules.specs.Lists.{every}
 use Rattle.rules.specs.Line.{numberPart, parentPart, contentPart}
 use Rattle.rules.specs.Text.{TAB, LF, allowed, count, before, after, fields, filled}
 use Rattle.readback.proofs.Splitting.{rejoin, count-after, before-left}
+use Rattle.text.specs.Reads.{numberIn}
 use Rattle.line.specs.Parts.{shapeFault, noParts, goodParts, partsOf}
 use Rattle.line.specs.declared.Parts.{Parts}
 
--- what the places say
+-- what they say
 pub record Cut (s : List ℕ) (parts : Parts) : Type 0 where
   pub shape : shapeFault (before LF s) ≡ accepted
-  pub number : take (parts .first) s ≡ numberPart (before LF s)
-  pub parent : take (parts .second - (parts .first + 1)) (drop (parts .first + 1) s) ≡ parentPart (before LF s)
-  pub low : parts .first + 1 ≤ parts .second
-  pub middle : parts .second + 1 ≤ parts .end
+  pub number : parts .number ≡ numberIn (numberPart (before LF s))
+  pub parent : parts .parent ≡ numberIn (parentPart (before LF s))
+  pub low : parts .start ≤ parts .end
   pub high : parts .end ≤ length s
   pub long : parts .end ≡ length (before LF s)
-  pub content : parts .end - (parts .second + 1) ≡ length (contentPart (before LF s))
+  pub content : parts .end - parts .start ≡ length (contentPart (before LF s))
   pub filled : parts .filled ≡ every filled (fields (contentPart (before LF s)))
 
 -- ---- the line
@@ -57,53 +56,21 @@ module _ (l : List ℕ) (h : 2 ≤ count TAB l) where
         length-append (parentPart l) (TAB ∷ contentPart l),
       )
 
--- the first part, and what is left behind the byte after it
-take-front : (p r t : List ℕ) (b k : ℕ) → r ≡ p ++ (b ∷ t) → k ≡ length p → take k r ≡ p
-take-front p r t b k e f = ap (take k) e ∙ take-at p (b ∷ t) k (sym f)
-
-drop-front : (p r t : List ℕ) (b k : ℕ) → r ≡ p ++ (b ∷ t) → k ≡ length p → drop (k + 1) r ≡ t
-drop-front p r t b k e f =
-    let n : length (p ++ (b ∷ [])) ≡ k + 1 = omega (arith, length-append p (b ∷ []), f) in
-    ap (drop (k + 1)) (e ∙ sym (append-snoc p b t)) ∙ drop-at (p ++ (b ∷ [])) t (k + 1) n
-
 -- ---- the text that starts with it
 
-module _ (s : List ℕ) (e : shapeFault (before LF s) ≡ accepted) where
-  abbrev l : List ℕ
-  l = before LF s
-
-  -- what is left behind the number's tab
-  abbrev after-number : List ℕ
-  after-number = after TAB l ++ drop (length l) s
-
-  text-is : s ≡ numberPart l ++ (TAB ∷ after-number)
-  text-is =
-      before-left LF s ∙ ap (λ (r : List ℕ). r ++ drop (length l) s) (behind-number l (two-tabs l e))
-      ∙ append-assoc (numberPart l) (TAB ∷ after TAB l) (drop (length l) s)
-
-  rest-is : after-number ≡ parentPart l ++ (TAB ∷ contentPart l ++ drop (length l) s)
-  rest-is =
-      ap (λ (r : List ℕ). r ++ drop (length l) s) (behind-parent l (two-tabs l e))
-      ∙ append-assoc (parentPart l) (TAB ∷ contentPart l) (drop (length l) s)
-
-  parent-wide : goodParts l .second - (goodParts l .first + 1) ≡ length (parentPart l)
-  parent-wide = omega arith
-
-  good-cut : Cut s (goodParts l)
-  good-cut =
-      record {
-        shape = e;
-        number = take-front (numberPart l) s after-number TAB _ text-is refl;
-        parent =
-            ap (take (goodParts l .second - (goodParts l .first + 1))) (drop-front (numberPart l) s after-number TAB _ text-is refl)
-            ∙ take-front (parentPart l) after-number (contentPart l ++ drop (length l) s) TAB _ rest-is parent-wide;
-        low = omega arith;
-        middle = omega (arith, line-long l (two-tabs l e));
-        high = omega (arith, ap length (before-left LF s), length-append l (drop (length l) s));
-        long = refl;
-        content = omega (arith, line-long l (two-tabs l e));
-        filled = refl;
-      }
+good-cut : (s : List ℕ) → shapeFault (before LF s) ≡ accepted → Cut s (goodParts (before LF s))
+good-cut s e =
+    let wide = line-long (before LF s) (two-tabs (before LF s) e) in
+    record {
+      shape = e;
+      number = refl;
+      parent = refl;
+      low = omega (arith, wide);
+      high = omega (arith, ap length (before-left LF s), length-append (before LF s) (drop (length (before LF s)) s));
+      long = refl;
+      content = omega (arith, wide);
+      filled = refl;
+    }
 
 pub cut-is : (s : List ℕ) (parts : Parts) → parts ≡ partsOf (before LF s) → parts .code ≡ accepted → Cut s parts
 cut-is s parts e f = go (eqb (shapeFault (before LF s)) accepted) refl e
@@ -114,11 +81,3 @@ cut-is s parts e f = go (eqb (shapeFault (before LF s)) accepted) refl e
     go false q g =
         let z : shapeFault (before LF s) ≡ accepted = sym (ap (λ (r : Parts). r .code) g) ∙ f in
         absurd (eqb-false (shapeFault (before LF s)) accepted q z)
-
--- the parts lie within the text
-module _ (s : List ℕ) (parts : Parts) (k : Cut s parts) where
-  pub first-long : parts .first ≡ length (take (parts .first) s)
-  first-long = sym (length-take-le (parts .first) s (omega (arith, k .low, k .middle, k .high)))
-
-  pub second-high : parts .second ≤ length s
-  second-high = omega (arith, k .middle, k .high)

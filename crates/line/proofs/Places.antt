@@ -1,5 +1,5 @@
--- The plain bytes of a text from a place on, and the byte behind them. s is the text, `from` the place, `end` the place where the plain
--- bytes end, x the byte there. Assumes nothing.
+-- The plain bytes of a text from a place on, the byte behind them, and the number that they write. s is the text, `from` the place,
+-- `end` the place where the plain bytes end, x the byte there. Assumes nothing.
 use mathlib.Core.Path.{_≡_, sym, ap, _∙_}
 use mathlib.Core.Bool.{false}
 use mathlib.Core.List.{List, _∷_, _++_}
@@ -10,7 +10,8 @@ use lib.ListN.{length, getD, take, drop, length-drop, take-append-drop}
 use lib.Seq.{length-take-le, getD-drop, drop-drop}
 use Rattle.rules.specs.Lists.{every}
 use Rattle.rules.specs.Text.{TAB, LF}
-use Rattle.text.specs.Reads.{plain, plainRun}
+use Rattle.text.specs.Reads.{plain, plainRun, numberIn, numberAt}
+use Rattle.text.specs.declared.Number.{Number}
 use Rattle.line.specs.Parts.{byteAt}
 use Rattle.line.proofs.PlainBytes.{run-le, run-plain, run-stops, run-next}
 
@@ -74,3 +75,17 @@ module _ (s : List ℕ) (from end x : ℕ) (e : end ≡ from + plainRun (drop fr
         long = part-long;
         parted = part-left ∙ ap (λ (r : List ℕ). part s from end ++ r) l;
       }
+
+-- the number that they write
+module _ (s : List ℕ) (from : ℕ) (number : Number) (e : number ≡ numberAt s from) where
+  pub number-end : number .end ≡ from + plainRun (drop from s)
+  number-end = ap (λ (n : Number). n .end) e
+
+  pub part-number : number .value ≡ numberIn (part s from (number .end))
+  part-number =
+      let long : plainRun (drop from s) ≡ number .end - from = omega (arith, number-end) in
+      ap (λ (n : Number). n .value) e ∙ ap (λ (k : ℕ). numberIn (take k (drop from s))) long
+
+  -- a tab behind it stands within the text
+  pub number-high : (x : ℕ) → x ≡ byteAt s (number .end) → x ≡ TAB → number .end < length s
+  number-high x b t = tabbed s from (number .end) x number-end b t .high

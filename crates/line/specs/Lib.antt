@@ -1,3 +1,3 @@
--- What is told of one line, and where its parts lie.
+-- What is told of one line, and its parts.
 pub mod Told
 pub mod Parts

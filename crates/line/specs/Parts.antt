@@ -1,5 +1,5 @@
--- Where the parts of one line lie, and how its content's fields are looked at. s is what is left of a text, l a line without its LF, x
--- a byte, c a content. Assumes nothing.
+-- The parts of one line, and how its content's fields are looked at. s is what is left of a text, l a line without its LF, x a byte.
+-- Assumes nothing.
 use mathlib.Core.Bool.{Bool, false, cond, not, _&&_}
 use mathlib.Core.List.{List, [], _∷_}
 use Prim.Native.Nat.{ℕ, suc, _+_}
@@ -10,6 +10,7 @@ use Rattle.rules.specs.Limits.{CONTENT}
 use Rattle.rules.specs.Lists.{every}
 use Rattle.rules.specs.Line.{numberPart, parentPart, contentPart}
 use Rattle.rules.specs.Text.{TAB, LF, allowed, count, fields, filled}
+use Rattle.text.specs.Reads.{numberIn}
 use Rattle.line.specs.declared.Fields.{Fields}
 use Rattle.line.specs.declared.Parts.{Parts}
 
@@ -47,15 +48,16 @@ abbrev pub shapeFault : List ℕ → ℕ
 shapeFault l = cond (not (every allowed l)) byteNotAllowed (cond (ltb (count TAB l) 2) fewTabs accepted)
 
 abbrev pub noParts : ℕ → Parts
-noParts code = record { code = code; first = 0; second = 0; end = 0; filled = false }
+noParts code = record { code = code; number = 0; parent = 0; start = 0; end = 0; filled = false }
 
--- the places of the two tabs and of the end
+-- the numbers that the first two parts write, and the content's place
 abbrev pub goodParts : List ℕ → Parts
 goodParts l =
     record {
       code = accepted;
-      first = length (numberPart l);
-      second = length (numberPart l) + 1 + length (parentPart l);
+      number = numberIn (numberPart l);
+      parent = numberIn (parentPart l);
+      start = length (numberPart l) + 1 + length (parentPart l) + 1;
       end = length l;
       filled = every filled (fields (contentPart l));
     }

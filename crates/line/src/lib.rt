@@ -10,6 +10,7 @@ use rules::limits::GREATEST;
 use rules::record::Record;
 use text::LF;
 use text::TAB;
+use text::number_at;
 use text::plain_end;
 ghost use mathlib.Core.Bool.{true, _&&_};
 ghost use mathlib.Core.Path.{_≡_};
@@ -37,12 +38,13 @@ struct Fields {
     filled: bool,
 }
 
-// Where the parts of a line lie, code 0: the places of its two tabs and of its end, and whether all fields of its content are filled;
-// or its fault, code 4 or 5.
+// The parts of a line, code 0: the numbers that its first two parts write, where its content starts and ends, and whether all fields
+// of its content are filled; or its fault, code 4 or 5.
 struct Parts {
     code: u32,
-    first: usize,
-    second: usize,
+    number: u32,
+    parent: u32,
+    start: usize,
     end: usize,
     filled: bool,
 }
@@ -65,8 +67,9 @@ fn no_parts(code: u32) -> Parts
 {
     Parts {
         code,
-        first: 0,
-        second: 0,
+        number: 0,
+        parent: 0,
+        start: 0,
         end: 0,
         filled: false,
     }
@@ -109,29 +112,31 @@ fn read_fields(s: &[u8], start: usize) -> Fields
     }
 }
 
-// Where the parts of the line lie that the rest of a text starts with. A byte that a line may not hold stops a run of plain bytes, so
-// no run is gone over twice; only the byte that stopped it is read again.
+// The parts of the line that the rest of a text starts with. A byte that a line may not hold stops a run of plain bytes, so no run is
+// gone over twice; only the byte that stopped it is read again.
 fn cut(rest: &[u8]) -> Parts
     ensures { λ r. ⌜ r ≡ partsOf (before lineFeed (now (rest .entry))) ⌝ }
 {
-    let first = plain_end(rest, 0);
-    let x = byte_at(rest, first);
+    let number = number_at(rest, 0);
+    let x = byte_at(rest, number.end);
     if x != TAB {
         return no_parts(short_fault(x));
     }
-    let second = plain_end(rest, first + 1);
-    let y = byte_at(rest, second);
+    let parent = number_at(rest, number.end + 1);
+    let y = byte_at(rest, parent.end);
     if y != TAB {
         return no_parts(short_fault(y));
     }
-    let content = read_fields(rest, second + 1);
+    let start = parent.end + 1;
+    let content = read_fields(rest, start);
     if byte_at(rest, content.end) != LF {
         return no_parts(BYTE_NOT_ALLOWED);
     }
     Parts {
         code: ACCEPTED,
-        first,
-        second,
+        number: number.value,
+        parent: parent.value,
+        start,
         end: content.end,
         filled: content.filled,
     }
@@ -165,27 +170,21 @@ pub fn read_line(rest: &[u8]) -> Line
     if parts.code != ACCEPTED {
         return faulty(parts.code);
     }
-    let first = parts.first;
-    let number = text::number(&rest[..first]);
-    if !Record::new(number).is_record() {
+    if !Record::new(parts.number).is_record() {
         return faulty(BAD_NUMBER);
     }
-    let from = first + 1;
-    let second = parts.second;
-    let parent = text::number(&rest[from..second]);
-    if GREATEST < parent {
+    if GREATEST < parts.parent {
         return faulty(BAD_PARENT);
     }
-    let start = second + 1;
-    let length = bytes_between(start, parts.end);
+    let length = bytes_between(parts.start, parts.end);
     if !content_fits(length, parts.filled) {
         return faulty(BAD_CONTENT);
     }
     Line {
         code: ACCEPTED,
-        number,
-        parent,
-        start,
+        number: parts.number,
+        parent: parts.parent,
+        start: parts.start,
         length,
         next: parts.end + 1,
     }

@@ -1,92 +1,253 @@
--- The number that a part of a text writes, as its loop goes. s is the part, i a place in it, v the number that the digits before i
--- write. Assumes nothing.
-use mathlib.Core.Path.{_≡_, refl, sym, _∙_}
-use mathlib.Core.Bool.{Bool, true, false, not, _&&_}
+-- The number that the plain bytes from a place on write: its digits, as their loop goes, and then the byte that ended them. s is the
+-- text, i and `from` are places in it, t is what is left of it, v the number that the digits before write, x a byte. Assumes nothing.
+use mathlib.Core.Path.{_≡_, refl, sym, ap, _∙_}
+use mathlib.Core.Bool.{Bool, true, false, cond, not, _&&_, true≢false}
 use mathlib.Core.List.{List, [], _∷_}
-use Prim.Native.Nat.{ℕ, _+_, _-_, _*_, _<_, _≤_}
+use Prim.Native.Nat.{ℕ, zero, suc, _+_, _-_, _*_, _<_, _≤_}
 use native.Mathlib.Omega.{arith}
 use native.Mathlib.Nat.{le-trans}
-use lib.Dec.{eqb}
-use lib.ListN.{length, getD, drop}
-use borrow.Author.Needs.{needs, zero≤}
-use borrow.Author.Tests.{le-leb, lt-leb, not-true, not-false}
+use lib.Dec.{eqb, leb}
+use lib.ListN.{length, getD, take, drop, List·getD-eq-default}
+use lib.Seq.{getD-drop, drop-drop}
+use borrow.Author.Needs.{needs}
+use borrow.Author.Tests.{ne-eqb, le-leb, lt-leb, le-ltb, lt-ltb, leb-true, leb-false, not-true, not-false}
 use Rattle.rules.specs.Limits.{GREATEST}
 use Rattle.rules.specs.Lists.{every}
 use Rattle.rules.specs.Text.{digit, noLeadingZero, valueFrom, value}
-use Rattle.text.specs.Reads.{NONE, numberIn}
+use Rattle.text.specs.Reads.{plain, plainRun, NONE, numberIn, numberAt, digitRun, digitsFrom, opens}
+use Rattle.text.specs.declared.Number.{Number}
 use Rattle.text.proofs.Places.{left-next, left-none}
+
+-- ---- the digits, as their loop goes
+
+module _ (s : List ℕ) (whole : Number) (v i : ℕ) (same : digitsFrom v i (drop i s) ≡ whole) where
+  stopped : digitRun v (drop i s) ≡ 0 → record { end = i; value = v } ≡ whole
+  stopped e = (λ j. record { end = place j; value = written j }) ∙ same
+    where
+      place : i ≡ i + digitRun v (drop i s)
+      place = omega (arith, e)
+
+      written : v ≡ valueFrom v (take (digitRun v (drop i s)) (drop i s))
+      written = rw e
+
+  pub digits-end : length s ≤ i → record { end = i; value = v } ≡ whole
+  digits-end h = stopped (rw (left-none s i h))
+
+  module _ (h : i < length s) where
+    pub digits-great : GREATEST < v → record { end = i; value = v } ≡ whole
+    digits-great g = stopped (rw (left-next s i h, lt-leb v GREATEST g))
+
+    module _ (k : v ≤ GREATEST) where
+      pub digits-low : getD s i 0 < 48 → record { end = i; value = v } ≡ whole
+      digits-low l = stopped (rw (left-next s i h, le-leb v GREATEST k, lt-leb 48 (getD s i 0) l))
+
+      module _ (l : 48 ≤ getD s i 0) where
+        pub digits-high : 57 < getD s i 0 → record { end = i; value = v } ≡ whole
+        digits-high g = stopped (rw (left-next s i h, le-leb v GREATEST k, le-leb 48 (getD s i 0) l, lt-leb (getD s i 0) 57 g))
+
+        pub digits-on : getD s i 0 ≤ 57 → digitsFrom (v * 10 + (getD s i 0 - 48)) (i + 1) (drop (i + 1) s) ≡ whole
+        digits-on g = (λ j. record { end = place j; value = written j }) ∙ same
+          where
+            n : ℕ
+            n = digitRun (v * 10 + (getD s i 0 - 48)) (drop (i + 1) s)
+
+            one : digitRun v (drop i s) ≡ suc n
+            one = rw (left-next s i h, le-leb v GREATEST k, le-leb 48 (getD s i 0) l, le-leb (getD s i 0) 57 g)
+
+            place : i + 1 + n ≡ i + digitRun v (drop i s)
+            place = omega (arith, one)
+
+            written : valueFrom (v * 10 + (getD s i 0 - 48)) (take n (drop (i + 1) s))
+                ≡ valueFrom v (take (digitRun v (drop i s)) (drop i s))
+            written = rw (one, left-next s i h)
+
+pub ruleset digits = (digits-end, digits-great, digits-low, digits-high, digits-on, needs)
 
 -- ---- what may open a decimal
 
-pub opens-empty : (s : List ℕ) → length s ≡ 0 → false ≡ noLeadingZero s
-opens-empty [] e = refl
-opens-empty (x ∷ s) e = absurd (omega arith)
+pub byte-none : (s : List ℕ) (i : ℕ) → length s ≤ i → 0 ≡ getD s i 0
+byte-none s i h = sym (List·getD-eq-default s 0 h)
 
-pub opens-one : (s : List ℕ) → length s ≡ 1 → true ≡ noLeadingZero s
-opens-one [] e = absurd (omega arith)
-opens-one (x ∷ []) e = refl
-opens-one (x ∷ y ∷ s) e = absurd (omega arith)
+pub opens-empty : (x from end : ℕ) → end ≤ from → false ≡ opens x (end - from)
+opens-empty x from end h = rw (le-ltb 0 (end - from) (omega arith))
 
-pub opens-more : (s : List ℕ) → (length s ≡ 0 → ⊥) → (length s ≡ 1 → ⊥) → not (eqb (getD s 0 0) 48) ≡ noLeadingZero s
-opens-more [] n m = absurd (n refl)
-opens-more (x ∷ []) n m = absurd (m refl)
-opens-more (x ∷ y ∷ s) n m = refl
+pub opens-one : (x from end : ℕ) → end - from ≡ 1 → true ≡ opens x (end - from)
+opens-one x from end e = rw e
 
-pub ruleset openings = (opens-empty, opens-one, opens-more, needs)
+pub opens-more : (x y from end : ℕ) → from < end → (end - from ≡ 1 → ⊥) → y ≡ x → not (eqb y 48) ≡ opens x (end - from)
+opens-more x y from end h n e = rw (lt-ltb 0 (end - from) (omega arith), ne-eqb (end - from) 1 n, e)
 
--- ---- what the loop keeps
+pub ruleset openings = (byte-none, opens-empty, opens-one, opens-more, needs)
 
-pub record Digits (s : List ℕ) (v i : ℕ) : Type 0 where
-  pub low : i ≤ length s
-  pub small : v ≤ GREATEST
-  pub first : noLeadingZero s ≡ true
-  pub all : every digit (drop i s) ≡ every digit s
-  pub same : valueFrom v (drop i s) ≡ value s
+-- the first n bytes of t
+opens-is : (t : List ℕ) (n : ℕ) → n ≤ length t → opens (getD t 0 0) n ≡ noLeadingZero (take n t)
+opens-is [] zero h = refl
+opens-is [] (suc n) h = absurd (omega arith)
+opens-is (x ∷ t) zero h = refl
+opens-is (x ∷ t) (suc zero) h = refl
+opens-is (x ∷ []) (suc (suc n)) h = absurd (omega arith)
+opens-is (x ∷ y ∷ t) (suc (suc n)) h =
+    rw (lt-ltb 0 (suc (suc n)) (omega arith), ne-eqb (suc (suc n)) 1 (λ e. absurd (omega (arith, e))))
 
-and-false : (a : Bool) → (a && false) ≡ false
-and-false true = refl
-and-false false = refl
+-- ---- the digits among the plain bytes
 
-module _ (s : List ℕ) where
-  pub number-opens : (r : Bool) → r ≡ noLeadingZero s → r ≡ false → NONE ≡ numberIn s
-  number-opens r e f = rw (← e, f, and-false)
+both : (a b : Bool) → (a && b) ≡ true → (a ≡ true) × (b ≡ true)
+both true b q = (refl, q)
+both false b q = absurd (true≢false (sym q))
 
-  pub digits-start : (r : Bool) → r ≡ noLeadingZero s → r ≡ true → Digits s 0 0
-  digits-start r e f = record { low = zero≤; small = zero≤; first = sym e ∙ f; all = refl; same = refl }
+digit-plain : (x : ℕ) → digit x ≡ true → plain x ≡ true
+digit-plain x e =
+    let a = both (leb 48 x) (leb x 57) e in
+    rw (le-leb 32 x (omega (arith, leb-true 48 x (a .0))), le-leb x 126 (omega (arith, leb-true x 57 (a .1))))
 
-  -- a byte that is no digit
-  no-digits : every digit s ≡ false → NONE ≡ numberIn s
-  no-digits e = rw e
+-- the value only grows
+value-grows : (v : ℕ) (t : List ℕ) → v ≤ valueFrom v t
+value-grows v [] = search needs
+value-grows v (x ∷ t) = le-trans (omega arith) (value-grows (v * 10 + (x - 48)) t)
 
-  -- the value only grows
-  value-grows : (v : ℕ) (t : List ℕ) → v ≤ valueFrom v t
-  value-grows v [] = search needs
-  value-grows v (x ∷ t) = le-trans (omega arith) (value-grows (v * 10 + (x - 48)) t)
+digits-le : (v : ℕ) (t : List ℕ) → digitRun v t ≤ length t
+digits-le v [] = omega arith
+digits-le v (x ∷ t) = go (leb v GREATEST && digit x) (digits-le (v * 10 + (x - 48)) t)
+  where
+    go : (u : Bool) → digitRun (v * 10 + (x - 48)) t ≤ length t → cond u (suc (digitRun (v * 10 + (x - 48)) t)) 0 ≤ suc (length t)
+    go true h = omega arith
+    go false h = omega arith
 
-  module _ (v i : ℕ) (d : Digits s v i) (h : i < length s) where
-    pub digits-low : getD s i 0 < 48 → NONE ≡ numberIn s
-    digits-low l = no-digits (sym (d .all) ∙ rw (left-next s i h, lt-leb 48 (getD s i 0) l))
+digits-all : (v : ℕ) (t : List ℕ) → every digit (take (digitRun v t) t) ≡ true
+digits-all v [] = refl
+digits-all v (x ∷ t) = go (leb v GREATEST && digit x) refl (digits-all (v * 10 + (x - 48)) t)
+  where
+    go : (u : Bool) → (leb v GREATEST && digit x) ≡ u → every digit (take (digitRun (v * 10 + (x - 48)) t) t) ≡ true
+        → every digit (take (cond u (suc (digitRun (v * 10 + (x - 48)) t)) 0) (x ∷ t)) ≡ true
+    go true q ih = rw (both (leb v GREATEST) (digit x) q .1) ih
+    go false q ih = refl
 
-    pub digits-high : 48 ≤ getD s i 0 → 57 < getD s i 0 → NONE ≡ numberIn s
-    digits-high l g = no-digits (sym (d .all) ∙ rw (left-next s i h, le-leb 48 (getD s i 0) l, lt-leb (getD s i 0) 57 g))
+-- the plain bytes go on behind the digits
+digits-run : (v : ℕ) (t : List ℕ) → digitRun v t + plainRun (drop (digitRun v t) t) ≡ plainRun t
+digits-run v [] = refl
+digits-run v (x ∷ t) = go (leb v GREATEST && digit x) refl (digits-run (v * 10 + (x - 48)) t)
+  where
+    n : ℕ
+    n = digitRun (v * 10 + (x - 48)) t
 
-    pub digits-big : GREATEST < v * 10 + (getD s i 0 - 48) → NONE ≡ numberIn s
-    digits-big g = rw (lt-leb (value s) GREATEST above, and-false)
+    go : (u : Bool) → (leb v GREATEST && digit x) ≡ u → n + plainRun (drop n t) ≡ plainRun t
+        → cond u (suc n) 0 + plainRun (drop (cond u (suc n) 0) (x ∷ t)) ≡ plainRun (x ∷ t)
+    go true q ih = rw (digit-plain x (both (leb v GREATEST) (digit x) q .1)) (omega (arith, ih))
+    go false q ih = omega arith
+
+-- and where no plain byte follows, they are the plain bytes
+run-none : (t : List ℕ) → plain (getD t 0 0) ≡ false → plainRun t ≡ 0
+run-none [] e = refl
+run-none (x ∷ t) e = rw e
+
+run-ends : (v : ℕ) (t : List ℕ) → plain (getD t (digitRun v t) 0) ≡ false → plainRun t ≡ digitRun v t
+run-ends v t e =
+    let n : digitRun v t + 0 ≡ digitRun v t = omega arith in
+    let first : getD (drop (digitRun v t) t) 0 0 ≡ getD t (digitRun v t) 0
+    = getD-drop (digitRun v t) t 0 0 ∙ ap (λ (k : ℕ). getD t k 0) n in
+    omega (arith, digits-run v t, run-none (drop (digitRun v t) t) (ap plain first ∙ e))
+
+-- where one follows, it is no digit, or what is written is above the greatest number before it
+run-bad : (v : ℕ) (t : List ℕ) → plain (getD t (digitRun v t) 0) ≡ true
+    → (every digit (take (plainRun t) t) && leb (valueFrom v (take (plainRun t) t)) GREATEST) ≡ false
+run-bad v [] e = absurd (true≢false (sym e))
+run-bad v (x ∷ t) e = go (leb v GREATEST) (digit x) refl refl e (run-bad (v * 10 + (x - 48)) t)
+  where
+    n : ℕ
+    n = digitRun (v * 10 + (x - 48)) t
+
+    r : List ℕ
+    r = take (plainRun t) t
+
+    great : leb v GREATEST ≡ false → leb (valueFrom v (x ∷ r)) GREATEST ≡ false
+    great q = lt-leb (valueFrom v (x ∷ r)) GREATEST (le-trans (leb-false v GREATEST q) (value-grows v (x ∷ r)))
+
+    and-false : (u : Bool) → (u && false) ≡ false
+    and-false true = refl
+    and-false false = refl
+
+    go : (a b : Bool) → leb v GREATEST ≡ a → digit x ≡ b → plain (getD (x ∷ t) (cond (a && b) (suc n) 0) 0) ≡ true
+        → (plain (getD t n 0) ≡ true → (every digit r && leb (valueFrom (v * 10 + (x - 48)) r) GREATEST) ≡ false)
+        → (every digit (take (plainRun (x ∷ t)) (x ∷ t)) && leb (valueFrom v (take (plainRun (x ∷ t)) (x ∷ t))) GREATEST) ≡ false
+    go true true p q f ih = rw (digit-plain x q, q) (ih f)
+    go true false p q f ih = rw (f, q)
+    go false b p q f ih = rw (f, great p) (and-false (every digit (x ∷ r)))
+
+-- ---- the ways through reading a number
+
+-- `found` is what was found of the digits, n the byte behind them, u whether it is plain
+module _ (s : List ℕ) (from n : ℕ) (u : Bool) (found : Number) (e : found ≡ digitsFrom 0 from (drop from s)) (b : n ≡ getD s (found .end) 0)
+    (f : u ≡ plain n) where
+  abbrev t : List ℕ
+  t = drop from s
+
+  abbrev k : ℕ
+  k = digitRun 0 t
+
+  place : found .end ≡ from + k
+  place = ap (λ (r : Number). r .end) e
+
+  tested : u ≡ plain (getD t k 0)
+  tested = f ∙ ap plain (b ∙ ap (λ (i : ℕ). getD s i 0) place ∙ sym (getD-drop from s k 0))
+
+  pub number-plain : (end : ℕ) → u ≡ true → end ≡ found .end + plainRun (drop (found .end) s)
+      → record { end = end; value = NONE } ≡ numberAt s from
+  number-plain end q h = λ i. record { end = finish i; value = none i }
+    where
+      left : drop (found .end) s ≡ drop k t
+      left = ap (λ (i : ℕ). drop i s) place ∙ sym (drop-drop k from s)
+
+      finish : end ≡ from + plainRun t
+      finish = omega (arith, h, place, ap plainRun left, digits-run 0 t)
+
+      bad : (x y z : Bool) → (x && z) ≡ false → ((x && y) && z) ≡ false
+      bad true true z g = g
+      bad true false z g = refl
+      bad false y z g = refl
+
+      none : NONE ≡ numberIn (take (plainRun t) t)
+      none =
+          let all = every digit (take (plainRun t) t) in
+          let low = leb (value (take (plainRun t) t)) GREATEST in
+          rw (bad all (noLeadingZero (take (plainRun t) t)) low (run-bad 0 t (sym tested ∙ q)))
+
+  -- w is whether the digits have no leading zero
+  module _ (w : Bool) (q : u ≡ false) (g : w ≡ opens (getD s from 0) (found .end - from)) where
+    ends : plainRun t ≡ k
+    ends = run-ends 0 t (sym tested ∙ q)
+
+    finish : found .end ≡ from + plainRun t
+    finish = omega (arith, place, ends)
+
+    opened : noLeadingZero (take k t) ≡ w
+    opened =
+        let wide : found .end - from ≡ k = omega (arith, place) in
+        let z : from + 0 ≡ from = omega arith in
+        let first : getD t 0 0 ≡ getD s from 0 = getD-drop from s 0 0 ∙ ap (λ (i : ℕ). getD s i 0) z in
+        sym (opens-is t k (digits-le 0 t)) ∙ sym (g ∙ ap (opens (getD s from 0)) wide ∙ ap (λ (x : ℕ). opens x k) (sym first))
+
+    written : numberIn (take (plainRun t) t) ≡ cond (w && leb (found .value) GREATEST) (found .value) NONE
+    written =
+        let v : found .value ≡ value (take k t) = ap (λ (r : Number). r .value) e in
+        rw (ends, digits-all 0 t, opened, v)
+
+    pub number-zero : not w ≡ true → record { end = found .end; value = NONE } ≡ numberAt s from
+    number-zero h = λ i. record { end = finish i; value = none i }
       where
-        above : GREATEST < value s
-        above = rw (← (d .same), left-next s i h) (le-trans g (value-grows (v * 10 + (getD s i 0 - 48)) (drop (i + 1) s)))
+        none : NONE ≡ numberIn (take (plainRun t) t)
+        none = rw (written, not-true w h)
 
-    pub digits-on : 48 ≤ getD s i 0 → getD s i 0 ≤ 57 → v * 10 + (getD s i 0 - 48) ≤ GREATEST
-        → Digits s (v * 10 + (getD s i 0 - 48)) (i + 1)
-    digits-on l g k = record { low = search needs; small = k; first = d .first; all = sym a ∙ d .all; same = sym b ∙ d .same }
-      where
-        a : every digit (drop i s) ≡ every digit (drop (i + 1) s)
-        a = rw (left-next s i h, le-leb 48 (getD s i 0) l, le-leb (getD s i 0) 57 g)
+    module _ (h : not w ≡ false) where
+      pub number-great : GREATEST < found .value → record { end = found .end; value = NONE } ≡ numberAt s from
+      number-great l = λ i. record { end = finish i; value = none i }
+        where
+          none : NONE ≡ numberIn (take (plainRun t) t)
+          none = rw (written, not-false w h, lt-leb (found .value) GREATEST l)
 
-        b : valueFrom v (drop i s) ≡ valueFrom (v * 10 + (getD s i 0 - 48)) (drop (i + 1) s)
-        b = rw (left-next s i h)
+      pub number-good : found .value ≤ GREATEST → found ≡ numberAt s from
+      number-good l = λ i. record { end = finish i; value = same i }
+        where
+          same : found .value ≡ numberIn (take (plainRun t) t)
+          same = rw (written, not-false w h, le-leb (found .value) GREATEST l)
 
-  pub digits-end : (v i : ℕ) → Digits s v i → length s ≤ i → v ≡ numberIn s
-  digits-end v i d h = rw (d .first, ← (d .all), ← (d .same), left-none s i h, le-leb v GREATEST (d .small))
-
-pub ruleset decimals = (number-opens, digits-start, digits-low, digits-high, digits-big, digits-on, digits-end, not-true, not-false, needs)
+pub ruleset numbers = (number-plain, number-zero, number-great, number-good, needs)

@@ -1,12 +1,13 @@
 -- What the leaf calls of reading answer, beside the words of document 01 that `rules` has. s is a part of a text, x a byte.
 -- Assumes nothing.
-use mathlib.Core.Bool.{Bool, cond, _&&_}
+use mathlib.Core.Bool.{Bool, cond, not, _&&_, _||_}
 use mathlib.Core.List.{List, [], _∷_}
-use Prim.Native.Nat.{ℕ, suc, _+_}
-use lib.Dec.{leb}
-use lib.ListN.{length, getD}
+use Prim.Native.Nat.{ℕ, suc, _+_, _-_, _*_}
+use lib.Dec.{eqb, leb, ltb}
+use lib.ListN.{length, getD, take, drop}
 use Rattle.rules.specs.Limits.{GREATEST}
-use Rattle.rules.specs.Text.{decimal, value}
+use Rattle.rules.specs.Text.{digit, decimal, valueFrom, value}
+use Rattle.text.specs.declared.Number.{Number}
 
 -- "32 to 126": what a line may hold besides tabs
 abbrev pub plain : ℕ → Bool
@@ -29,3 +30,23 @@ NONE = 65536
 -- the number that s writes
 abbrev pub numberIn : List ℕ → ℕ
 numberIn s = cond (decimal s && leb (value s) GREATEST) (value s) NONE
+
+-- the plain bytes from a place on: where they end, and the number that they write
+abbrev pub numberAt : List ℕ → ℕ → Number
+numberAt s from =
+    record { end = from + plainRun (drop from s); value = numberIn (take (plainRun (drop from s)) (drop from s)) }
+
+-- ---- the digits that it starts with
+
+-- how many bytes from the first on are digits, behind those that write v, up to where that is above the greatest number
+abbrev pub digitRun : ℕ → List ℕ → ℕ
+digitRun v [] = 0
+digitRun v (x ∷ s) = cond (leb v GREATEST && digit x) (suc (digitRun (v * 10 + (x - 48)) s)) 0
+
+-- where they end, if s starts at a place, and what they write
+abbrev pub digitsFrom : ℕ → ℕ → List ℕ → Number
+digitsFrom v place s = record { end = place + digitRun v s; value = valueFrom v (take (digitRun v s) s) }
+
+-- n bytes, the first of them x, may open a decimal: there are some, and 0 comes first only where it stands alone
+abbrev pub opens : ℕ → ℕ → Bool
+opens x n = ltb 0 n && (eqb n 1 || not (eqb x 48))

@@ -2,10 +2,10 @@
 use rules::limits::GREATEST;
 ghost use mathlib.Core.Bool.{_&&_};
 ghost use mathlib.Core.Path.{_≡_};
-ghost use Prim.Native.Nat.{_+_};
-ghost use lib.ListN.{drop};
-ghost use Rattle.rules.specs.Text.{LF as lineFeed, count, noLeadingZero, ended as endedOf};
-ghost use Rattle.text.specs.Reads.{plain as plainOf, plainRun, fourPlain, numberIn};
+ghost use Prim.Native.Nat.{_+_, _-_};
+ghost use lib.ListN.{getD, drop};
+ghost use Rattle.rules.specs.Text.{LF as lineFeed, count, ended as endedOf};
+ghost use Rattle.text.specs.Reads.{plain as plainOf, plainRun, fourPlain, digitsFrom, opens, numberAt};
 
 pub const TAB: u8 = 9;
 
@@ -57,11 +57,11 @@ fn plain_fours(s: &[u8], from: usize) -> usize
     i
 }
 
-// Where the plain bytes from a place on end. Most stand in runs of four and more.
-pub fn plain_end(s: &[u8], from: usize) -> usize
+// Where the plain bytes from a place on end, byte by byte.
+fn plain_rest(s: &[u8], from: usize) -> usize
     ensures { λ r. ⌜ r ≡ from + plainRun (drop from (now (s .entry))) ⌝ }
 {
-    let mut i = plain_fours(s, from);
+    let mut i = from;
     while i < s.len() {
         if !plain(s[i]) {
             return i;
@@ -71,43 +71,85 @@ pub fn plain_end(s: &[u8], from: usize) -> usize
     i
 }
 
-// Whether s may open a decimal: not empty, and 0 first only where it stands alone.
-fn no_leading_zero(s: &[u8]) -> bool
-    ensures { λ r. ⌜ r ≡ noLeadingZero (now (s .entry)) ⌝ }
+// The same. Most stand in runs of four and more.
+pub fn plain_end(s: &[u8], from: usize) -> usize
+    ensures { λ r. ⌜ r ≡ from + plainRun (drop from (now (s .entry))) ⌝ }
 {
-    if s.len() == 0 {
-        return false;
-    }
-    if s.len() == 1 {
-        return true;
-    }
-    s[0] != ZERO
+    let i = plain_fours(s, from);
+    plain_rest(s, i)
 }
 
-// The number that s writes; NONE where it writes none up to 65,535. It reads six digits at most.
-pub fn number(s: &[u8]) -> u32
-    ensures { λ r. ⌜ r ≡ numberIn (now (s .entry)) ⌝ }
+// The plain bytes from a place on: where they end, and the number that they write.
+pub struct Number {
+    pub end: usize,
+    pub value: u32,
+}
+
+// The digits from a place on: where they end, and what they write. No more are looked at once that is above the greatest number.
+fn digits_from(s: &[u8], from: usize) -> Number
+    ensures { λ r. ⌜ r ≡ digitsFrom 0 from (drop from (now (s .entry))) ⌝ }
 {
-    if !no_leading_zero(s) {
-        return NONE;
-    }
     let mut v: u32 = 0;
-    let mut i = 0;
+    let mut i = from;
     while i < s.len() {
+        if GREATEST < v {
+            return Number { end: i, value: v };
+        }
         let x = s[i];
         if x < ZERO {
-            return NONE;
+            return Number { end: i, value: v };
         }
         if NINE < x {
-            return NONE;
+            return Number { end: i, value: v };
         }
         v = v * 10 + ((x - ZERO) as u32);
-        if GREATEST < v {
-            return NONE;
-        }
         i += 1;
     }
-    v
+    Number { end: i, value: v }
+}
+
+// The byte at a place. At the end of the text it is 0, which is not plain.
+fn byte(s: &[u8], at: usize) -> u8
+    ensures { λ r. ⌜ r ≡ getD (now (s .entry)) at 0 ⌝ }
+{
+    if at < s.len() { s[at] } else { 0 }
+}
+
+// Whether what stands between two places may open a decimal: not empty, and 0 first only where it stands alone.
+fn no_leading_zero(s: &[u8], from: usize, end: usize) -> bool
+    ensures { λ r. ⌜ r ≡ opens (getD (now (s .entry)) from 0) (end - from) ⌝ }
+{
+    if end <= from {
+        return false;
+    }
+    if end - from == 1 {
+        return true;
+    }
+    byte(s, from) != ZERO
+}
+
+// The plain bytes from a place on, with NONE where they write no number up to 65,535. Digits that a tab ends are gone over once.
+pub fn number_at(s: &[u8], from: usize) -> Number
+    ensures { λ r. ⌜ r ≡ numberAt (now (s .entry)) from ⌝ }
+{
+    let digits = digits_from(s, from);
+    if plain(byte(s, digits.end)) {
+        let end = plain_rest(s, digits.end);
+        return Number { end, value: NONE };
+    }
+    if !no_leading_zero(s, from, digits.end) {
+        return Number {
+            end: digits.end,
+            value: NONE,
+        };
+    }
+    if GREATEST < digits.value {
+        return Number {
+            end: digits.end,
+            value: NONE,
+        };
+    }
+    digits
 }
 
 // Whether the text is empty or its last byte is an LF.

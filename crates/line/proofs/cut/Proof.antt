@@ -1,13 +1,13 @@
 -- `cut` meets its contract. Assumes nothing.
 use native.Mathlib.Omega.{arith}
 use denote.Ref.{now}
-use Rattle.line.proofs.Scanning.{tab-high}
+use Rattle.line.proofs.Places.{number-high}
 use Rattle.line.proofs.Cutting.{cuts}
 use Rattle.line.proofs.cut.Statement.{statement}
 use Rattle.line.proofs.cut.Tie as tie
 
-plain-end-requires : tie.Need-plain-end-requires
-plain-end-requires c κs = search cuts
+number-at-requires : tie.Need-number-at-requires
+number-at-requires c κs = search cuts
 
 byte-at-requires : tie.Need-byte-at-requires
 byte-at-requires c κs = search cuts
@@ -21,15 +21,15 @@ no-parts-requires c κs = search cuts
 returns : tie.Need-returns
 returns c = search cuts
 
-add-plain-end : tie.Need-add-plain-end
-add-plain-end c = omega (
+add-number-at : tie.Need-add-number-at
+add-number-at c = omega (
   arith,
-  tab-high (now (c .before .before .before .before .args .rest)) 0 _ _ (c .before .before .plain-end .ensures)
-      (c .before .byte-at .ensures) (c .if1 .left),
+  number-high (now (c .before .before .before .before .before .args .rest)) 0 _ (c .before .before .before .number-at .ensures) _
+      (c .before .before .byte-at .ensures) (c .before .if1 .left),
 )
 
-plain-end-requires-2 : tie.Need-plain-end-requires-2
-plain-end-requires-2 c κs = search cuts
+number-at-requires-2 : tie.Need-number-at-requires-2
+number-at-requires-2 c κs = search cuts
 
 byte-at-requires-2 : tie.Need-byte-at-requires-2
 byte-at-requires-2 c κs = search cuts
@@ -43,8 +43,11 @@ no-parts-requires-2 c κs = search cuts
 returns-2 : tie.Need-returns-2
 returns-2 c = search cuts
 
-add-read-fields : tie.Need-add-read-fields
-add-read-fields c = omega (arith, tab-high _ _ _ _ (c .before .before .plain-end2 .ensures) (c .before .byte-at2 .ensures) (c .if2 .left))
+add-start : tie.Need-add-start
+add-start c = omega (
+  arith,
+  number-high _ _ _ (c .before .before .before .number-at2 .ensures) _ (c .before .before .byte-at2 .ensures) (c .before .if2 .left),
+)
 
 read-fields-requires : tie.Need-read-fields-requires
 read-fields-requires c κs = search cuts
@@ -65,18 +68,18 @@ pub cut-spec : {M : Type 1} → statement M
 cut-spec =
     tie.close
     (tie.spec
-    plain-end-requires
+    number-at-requires
     byte-at-requires
     short-fault-requires
     no-parts-requires
     returns
-    add-plain-end
-    plain-end-requires-2
+    add-number-at
+    number-at-requires-2
     byte-at-requires-2
     short-fault-requires-2
     no-parts-requires-2
     returns-2
-    add-read-fields
+    add-start
     read-fields-requires
     byte-at-requires-3
     no-parts-requires-3

@@ -3,9 +3,6 @@ use Rattle.text.proofs.Runs.{runs}
 use borrow.Author.Needs.{needs}
 use Rattle.text.proofs.all_plain.Statement.{statement}
 use Rattle.text.proofs.all_plain.Tie as tie
-use Rattle.text.proofs.all_plain.Reads as reads
-use Rattle.text.proofs.all_plain.Lts as lts
-use Rattle.text.proofs.plain.Reads as plain-reads
 
 -- src/lib.rt:33:5
 plain-requires : tie.Need-plain-requires

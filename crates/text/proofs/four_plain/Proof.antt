@@ -3,9 +3,6 @@ use Rattle.text.proofs.Runs.{runs}
 use borrow.Author.Needs.{needs}
 use Rattle.text.proofs.four_plain.Statement.{statement}
 use Rattle.text.proofs.four_plain.Tie as tie
-use Rattle.text.proofs.four_plain.Reads as reads
-use Rattle.text.proofs.four_plain.Lts as lts
-use Rattle.text.proofs.all_plain.Reads as all-plain-reads
 
 -- src/lib.rt:41:9
 returns : tie.Need-returns

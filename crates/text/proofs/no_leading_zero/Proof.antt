@@ -6,14 +6,17 @@ use Rattle.text.proofs.no_leading_zero.Tie as tie
 returns : tie.Need-returns
 returns c = search openings
 
+sub-if2 : tie.Need-sub-if2
+sub-if2 c = search openings
+
 returns-2 : tie.Need-returns-2
 returns-2 c = search openings
 
-shared-slice-read-result : tie.Need-shared-slice-read-result
-shared-slice-read-result c = search openings
+byte-requires : tie.Need-byte-requires
+byte-requires c κs = search openings
 
 returns-3 : tie.Need-returns-3
 returns-3 c = search openings
 
 pub no-leading-zero-spec : {M : Type 1} → statement M
-no-leading-zero-spec = tie.close (tie.spec returns returns-2 shared-slice-read-result returns-3)
+no-leading-zero-spec = tie.close (tie.spec returns sub-if2 returns-2 byte-requires returns-3)

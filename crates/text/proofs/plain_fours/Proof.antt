@@ -6,9 +6,6 @@ use Rattle.text.specs.Reads.{plainRun}
 use Rattle.text.proofs.Runs.{runs}
 use Rattle.text.proofs.plain_fours.Statement.{statement}
 use Rattle.text.proofs.plain_fours.Tie as tie
-use Rattle.text.proofs.plain_fours.Reads as reads
-use Rattle.text.proofs.plain_fours.Lts as lts
-use Rattle.text.proofs.four_plain.Reads as four-plain-reads
 
 abbrev Inv-loop : tie.InvT-loop
 Inv-loop s from i₀ i = i + plainRun (drop i s) ≡ from + plainRun (drop from s)

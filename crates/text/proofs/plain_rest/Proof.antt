@@ -1,25 +1,17 @@
--- The proof of `plain_end`: i is the place reached, and the end from there is the end from the start. Assumes nothing.
+-- The proof of `plain_rest`: i is the place reached, and the end from there is the end from the start. Assumes nothing.
 use mathlib.Core.Path.{_≡_}
 use Prim.Native.Nat.{_+_, _-_}
 use lib.ListN.{length, drop}
 use Rattle.text.specs.Reads.{plainRun}
 use Rattle.text.proofs.Runs.{runs}
-use Rattle.text.proofs.plain_end.Statement.{statement}
-use Rattle.text.proofs.plain_end.Tie as tie
-use Rattle.text.proofs.plain_end.Reads as reads
-use Rattle.text.proofs.plain_end.Lts as lts
-use Rattle.text.proofs.plain.Reads as plain-reads
-use Rattle.text.proofs.plain_fours.Reads as plain-fours-reads
+use Rattle.text.proofs.plain_rest.Statement.{statement}
+use Rattle.text.proofs.plain_rest.Tie as tie
 
 abbrev Inv-loop : tie.InvT-loop
 Inv-loop s from i₀ i = i + plainRun (drop i s) ≡ from + plainRun (drop from s)
 
 abbrev μ-loop : tie.MeasureT-loop
 μ-loop s from i₀ i = length s - i
-
--- src/lib.rt:64:9
-plain-fours-requires : tie.Need-plain-fours-requires Inv-loop μ-loop
-plain-fours-requires c κs = search runs
 
 -- src/lib.rt:65:5
 loop-holds : tie.Need-loop-holds Inv-loop μ-loop
@@ -53,13 +45,12 @@ loop-again c = search runs
 returns-2 : tie.Need-returns-2 Inv-loop μ-loop
 returns-2 c = search runs
 
-pub plain-end-spec : {M : Type 1} → statement M
-plain-end-spec =
+pub plain-rest-spec : {M : Type 1} → statement M
+plain-rest-spec =
     tie.close
     (tie.spec
     Inv-loop
     μ-loop
-    plain-fours-requires
     loop-holds
     shared-slice-read-plain
     plain-requires
