@@ -17,6 +17,7 @@ use Rattle.rules.specs.Line.{numberPart, parentPart, contentPart, numberOk, par
 use Rattle.rules.specs.Text.{TAB, LF, allowed, count, before, decimal, value, filled, contentOk}
 use Rattle.text.specs.Reads.{NONE, numberIn}
 use Rattle.text.proofs.Places.{part-from, left-none}
+use Rattle.text.proofs.Runs.{and-false}
 use Rattle.line.specs.Parts.{contentFits, shapeFault, noParts, goodParts, partsOf}
 use Rattle.line.specs.Told.{faulty, good, lineTold, nextLine}
 use Rattle.line.specs.declared.Line.{Line}
@@ -64,10 +65,6 @@ module _ (l : List ℕ) where
   fault-judged e = others-open (not (every allowed l)) (ltb (count TAB l) 2) _ e
 
 -- ---- numbers
-
-and-false : (u : Bool) → (u && false) ≡ false
-and-false true = refl
-and-false false = refl
 
 -- a decimal above the greatest number counts as none
 record-read : (d : Bool) (v : ℕ) → isRecord (cond (d && leb v GREATEST) v NONE) ≡ (d && isRecord v)

@@ -22,12 +22,6 @@ use Rattle.table.specs.Read.{told, faultIn, TABLES, Begins, Reads, Fills
 use Rattle.table.proofs.Reading.{Reading, too-long, not-ended, out, finish}
 use Rattle.table.proofs.Growing.{begins, goes-on, small, reading-few}
 
-pub start : (text ls fs : List ℕ) → Begins text ls fs → Reading text 0 ls fs 0
-start = begins
-
-pub end : (text ls fs : List ℕ) (place c : ℕ) → Reading text place ls fs c → length text ≤ place → Reads text ls fs (told 0 0 c)
-end = finish
-
 module _ (text ls fs : List ℕ) (place c : ℕ) (g : Reading text place ls fs c) where
   pub line-fits : Fits w64 (c + 1)
   line-fits = record { fits = omega (arith, reading-few text ls fs place c g) }
@@ -111,8 +105,8 @@ fills text lines facts t ls fs r h p q w = record {
 }
 
 pub ruleset steps = (
-  start,
-  end,
+  begins,
+  finish,
   line-fits,
   line-small,
   faulty-line,

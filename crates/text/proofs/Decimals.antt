@@ -17,6 +17,7 @@ use Rattle.rules.specs.Text.{digit, noLeadingZero, valueFrom, value}
 use Rattle.text.specs.Reads.{plain, plainRun, NONE, numberIn, numberAt, digitRun, digitsFrom, opens}
 use Rattle.text.specs.declared.Number.{Number}
 use Rattle.text.proofs.Places.{left-next, left-none}
+use Rattle.text.proofs.Runs.{both, and-false}
 
 -- ---- the digits, as their loop goes
 
@@ -91,10 +92,6 @@ opens-is (x ∷ y ∷ t) (suc (suc n)) h =
 
 -- ---- the digits among the plain bytes
 
-both : (a b : Bool) → (a && b) ≡ true → (a ≡ true) × (b ≡ true)
-both true b q = (refl, q)
-both false b q = absurd (true≢false (sym q))
-
 digit-plain : (x : ℕ) → digit x ≡ true → plain x ≡ true
 digit-plain x e =
     let a = both (leb 48 x) (leb x 57) e in
@@ -161,10 +158,6 @@ run-bad v (x ∷ t) e = go (leb v GREATEST) (digit x) refl refl e (run-bad (v * 
 
     great : leb v GREATEST ≡ false → leb (valueFrom v (x ∷ r)) GREATEST ≡ false
     great q = lt-leb (valueFrom v (x ∷ r)) GREATEST (le-trans (leb-false v GREATEST q) (value-grows v (x ∷ r)))
-
-    and-false : (u : Bool) → (u && false) ≡ false
-    and-false true = refl
-    and-false false = refl
 
     go : (a b : Bool) → leb v GREATEST ≡ a → digit x ≡ b → plain (getD (x ∷ t) (cond (a && b) (suc n) 0) 0) ≡ true
         → (plain (getD t n 0) ≡ true → (every digit r && leb (valueFrom (v * 10 + (x - 48)) r) GREATEST) ≡ false)

@@ -14,6 +14,16 @@ use borrow.Author.Tests.{le-leb, lt-leb, leb-true, not-true, not-false}
 use Rattle.text.specs.Reads.{plain, plainRun, fourPlain}
 use Rattle.text.proofs.Places.{left-next, left-none}
 
+-- ---- two tests
+
+pub both : (a b : Bool) → (a && b) ≡ true → (a ≡ true) × (b ≡ true)
+both true b q = (refl, q)
+both false b q = absurd (true≢false (sym q))
+
+pub and-false : (a : Bool) → (a && false) ≡ false
+and-false true = refl
+and-false false = refl
+
 -- ---- one byte
 
 pub plain-low : (x : ℕ) → x < 32 → false ≡ plain x
@@ -71,15 +81,11 @@ module _ (s : List ℕ) (i : ℕ) where
 
   four : fourPlain s i ≡ true → Four
   four e =
-      let a = all (leb (i + 4) (length s)) _ e in
-      let b = all (plain (getD s i 0)) _ (a .1) in
-      let c = all (plain (getD s (i + 1) 0)) _ (b .1) in
-      let d = all (plain (getD s (i + 2) 0)) _ (c .1) in
+      let a = both (leb (i + 4) (length s)) _ e in
+      let b = both (plain (getD s i 0)) _ (a .1) in
+      let c = both (plain (getD s (i + 1) 0)) _ (b .1) in
+      let d = both (plain (getD s (i + 2) 0)) _ (c .1) in
       record { in-text = a .0; first = b .0; second = c .0; third = d .0; fourth = d .1 }
-    where
-      all : (a b : Bool) → (a && b) ≡ true → (a ≡ true) × (b ≡ true)
-      all true b q = (refl, q)
-      all false b q = absurd (true≢false (sym q))
 
   pub four-in : (r : Bool) → r ≡ fourPlain s i → r ≡ true → i + 4 ≤ length s
   four-in r e t = leb-true (i + 4) (length s) (four (sym e ∙ t) .in-text)
