@@ -11,8 +11,6 @@ use rules::answers::Part;
 use rules::codes::ACCEPTED;
 use table::read_table;
 ghost use mathlib.Core.Path.{_≡_};
-ghost use Prim.Native.Nat.{_+_};
-ghost use lib.ListN.{length};
 ghost use Rattle.rules.specs.Calls.{noPart, contentAnswer};
 ghost use Rattle.rules.specs.Promises.{Checks, HandsBack};
 

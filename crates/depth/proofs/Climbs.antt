@@ -10,6 +10,7 @@ use lib.ListN.{getD, set, length, replicate}
 use lib.Seq.{getD-set-same, getD-set-other}
 use borrow.Author.Needs.{needs}
 use borrow.Author.Tests.{eq-eqb, ne-eqb}
+use Rattle.facts.specs.Memory.{ROOM}
 use Rattle.depth.specs.Climbing.{upLine, climb, depthOn, greatestOn, Climbs, Noted}
 
 -- ---- steps
@@ -76,8 +77,8 @@ module _ (ls fs : List ℕ) where
   pub noted-here : (ds : List ℕ) (l v : ℕ) → Noted ls fs ds → v ≡ getD ds l 0 → 0 < v → v ≡ depthOn ls fs l
   noted-here ds l v w e h = e ∙ w .right l (omega arith)
 
-  pub noted-none : Noted ls fs (replicate 1025 0)
-  noted-none = record { right = λ l h. absurd (omega (arith, zeros 1025 l)) }
+  pub noted-none : Noted ls fs (replicate ROOM 0)
+  noted-none = record { right = λ l h. absurd (omega (arith, zeros ROOM l)) }
     where
       zeros : (n k : ℕ) → getD (replicate {A = ℕ} n 0) k 0 ≡ 0
       zeros zero k = refl
@@ -99,7 +100,7 @@ module _ (ls fs : List ℕ) where
     pub greatest : best ≡ greatestOn ls fs l
     pub noted : Noted ls fs ds
 
-  pub deepest-start : (count : ℕ) → Deepest count (replicate 1025 0) 0 0
+  pub deepest-start : (count : ℕ) → Deepest count (replicate ROOM 0) 0 0
   deepest-start count = record { within = omega arith; greatest = refl; noted = noted-none }
 
   pub climbs-line : (count l : ℕ) → Climbs ls fs count → l < count → Climbs ls fs (l + 1)

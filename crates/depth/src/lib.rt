@@ -9,11 +9,12 @@ use facts::wide;
 ghost use mathlib.Core.Path.{_≡_};
 ghost use Prim.Native.Nat.{max, _≤_};
 ghost use lib.ListN.{length};
+ghost use Rattle.facts.specs.Memory.{ROOM};
 ghost use Rattle.depth.specs.Climbing.{upLine, depthOn, greatestOn, Climbs, Noted};
 
 // What the type of the lent notes says of their length. It does nothing when it runs.
 fn notes(noted: &[u16; ROOM])
-    ensures { λ r. ⌜ length (now (noted .entry)) ≡ 1025 ⌝ }
+    ensures { λ r. ⌜ length (now (noted .entry)) ≡ ROOM ⌝ }
 {
     let s = &noted[..];
 }

@@ -15,9 +15,9 @@ use Rattle.rules.specs.Codes.{accepted, byteNotAllowed, fewTabs}
 use Rattle.rules.specs.Lists.{every}
 use Rattle.rules.specs.Line.{numberPart, parentPart, contentPart}
 use Rattle.rules.specs.Text.{TAB, LF, allowed, count, before, after, fields, filled}
-use Rattle.text.specs.Reads.{plain, plainRun, numberIn, numberAt}
+use Rattle.text.specs.Reads.{byteAt, plain, plainRun, numberIn, numberAt}
 use Rattle.text.specs.declared.Number.{Number}
-use Rattle.line.specs.Parts.{byteAt, shortFault, allowedRun, fieldsFrom, shapeFault, noParts, goodParts, partsOf}
+use Rattle.line.specs.Parts.{shortFault, allowedRun, fieldsFrom, shapeFault, noParts, goodParts, partsOf}
 use Rattle.line.specs.declared.Fields.{Fields}
 use Rattle.line.specs.declared.Parts.{Parts}
 use Rattle.line.proofs.PlainBytes.{before-plain, after-plain, count-plain, allowed-plain}

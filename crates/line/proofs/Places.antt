@@ -10,9 +10,8 @@ use lib.ListN.{length, getD, take, drop, length-drop, take-append-drop}
 use lib.Seq.{length-take-le, getD-drop, drop-drop}
 use Rattle.rules.specs.Lists.{every}
 use Rattle.rules.specs.Text.{TAB, LF}
-use Rattle.text.specs.Reads.{plain, plainRun, numberIn, numberAt}
+use Rattle.text.specs.Reads.{byteAt, plain, plainRun, numberIn, numberAt}
 use Rattle.text.specs.declared.Number.{Number}
-use Rattle.line.specs.Parts.{byteAt}
 use Rattle.line.proofs.PlainBytes.{run-le, run-plain, run-stops, run-next}
 
 -- the byte at a place is the first of what is left there

@@ -13,8 +13,8 @@ use borrow.Author.Needs.{needs}
 use borrow.Author.Tests.{ne-eqb, lt-ltb, le-ltb, ltb-true, ltb-false}
 use Rattle.rules.specs.Lists.{every}
 use Rattle.rules.specs.Text.{TAB, LF, fields, filled}
-use Rattle.text.specs.Reads.{plain, plainRun}
-use Rattle.line.specs.Parts.{byteAt, allowedRun, allFilled, fieldsFrom}
+use Rattle.text.specs.Reads.{byteAt, plain, plainRun}
+use Rattle.line.specs.Parts.{allowedRun, allFilled, fieldsFrom}
 use Rattle.line.specs.declared.Fields.{Fields}
 use Rattle.line.proofs.PlainBytes.{plain-allowed, fields-tab, fields-last, filled-long}
 use Rattle.line.proofs.Places.{byte-first, part, Tabbed, tabbed, part-plain, part-long, part-left, byte-stops}

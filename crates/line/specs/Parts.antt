@@ -4,7 +4,7 @@ use mathlib.Core.Bool.{Bool, false, cond, not, _&&_}
 use mathlib.Core.List.{List, [], _∷_}
 use Prim.Native.Nat.{ℕ, suc, _+_}
 use lib.Dec.{eqb, leb, ltb}
-use lib.ListN.{length, getD, take}
+use lib.ListN.{length, take}
 use Rattle.rules.specs.Codes.{accepted, byteNotAllowed, fewTabs}
 use Rattle.rules.specs.Limits.{CONTENT}
 use Rattle.rules.specs.Lists.{every}
@@ -13,10 +13,6 @@ use Rattle.rules.specs.Text.{TAB, LF, allowed, count, fields, filled}
 use Rattle.text.specs.Reads.{numberIn}
 use Rattle.line.specs.declared.Fields.{Fields}
 use Rattle.line.specs.declared.Parts.{Parts}
-
--- the byte at a place; the end of the text ends a line as an LF does
-abbrev pub byteAt : List ℕ → ℕ → ℕ
-byteAt s place = getD s place LF
 
 -- the fault of a line that ends, with the byte x, before its second tab
 abbrev pub shortFault : ℕ → ℕ

@@ -1,4 +1,4 @@
-// One line of a table: its row, with the place of its content, or its fault. Each byte of the line is looked at once.
+// One line of a table: its row, with the place of its content, or its fault. Each run of its bytes is passed over once.
 use rules::codes::ACCEPTED;
 use rules::codes::BAD_CONTENT;
 use rules::codes::BAD_NUMBER;
@@ -10,6 +10,7 @@ use rules::limits::GREATEST;
 use rules::record::Record;
 use text::LF;
 use text::TAB;
+use text::byte_at;
 use text::number_at;
 use text::plain_end;
 ghost use mathlib.Core.Bool.{true, _&&_};
@@ -19,7 +20,7 @@ ghost use lib.Dec.{ltb};
 ghost use lib.ListN.{length, drop};
 ghost use Rattle.rules.specs.Text.{LF as lineFeed, before};
 ghost use Rattle.line.specs.Told.{faulty as faultyOf, nextLine};
-ghost use Rattle.line.specs.Parts.{byteAt, shortFault, fieldsFrom, contentFits, noParts, partsOf};
+ghost use Rattle.line.specs.Parts.{shortFault, fieldsFrom, contentFits, noParts, partsOf};
 
 // What is told of a line: code 0, number, parent, the content's start and length in the line, and where the next line starts; or the
 // code of its fault and zeros.
@@ -73,13 +74,6 @@ fn no_parts(code: u32) -> Parts
         end: 0,
         filled: false,
     }
-}
-
-// The byte at a place. The end of the text ends a line as an LF does.
-fn byte_at(s: &[u8], at: usize) -> u8
-    ensures { λ r. ⌜ r ≡ byteAt (now (s .entry)) at ⌝ }
-{
-    if at < s.len() { s[at] } else { LF }
 }
 
 // The fault of a line that the byte x ends before its second tab.

@@ -8,6 +8,7 @@ use mathlib.Core.Bool.{Bool, cond}
 use lib.ListN.{length, drop, set, length-drop, length-set, length-replicate}
 use borrow.Author.Tests.{le-ltb}
 use Rattle.rules.specs.Limits.{LINES, BYTES}
+use Rattle.rules.specs.Codes.{accepted}
 use Rattle.rules.specs.Marks.{START, END}
 use Rattle.rules.specs.Text.{LF, before, lines}
 use Rattle.rules.specs.Calls.{partFrom}
@@ -26,7 +27,7 @@ use Rattle.table.specs.Read.{faultIn, Begins}
 use Rattle.table.proofs.Reading.{Reading, row, follows, is-good, on, has-stands}
 
 module _ (text ls fs : List ℕ) (place c : ℕ) (g : Reading text place ls fs c) (more : place < length text) (l : Line)
-    (e : l ≡ nextLine (drop place text)) (fine : faultIn ls c l ≡ 0) where
+    (e : l ≡ nextLine (drop place text)) (fine : faultIn ls c l ≡ accepted) where
   abbrev y : Row
   y = row text ls fs place c g more l e fine
 
@@ -108,7 +109,7 @@ begins text ls fs b = record {
         subst (λ (z : List ℕ). Holds z fs []) (sym (b .no-line))
         (subst (λ (z : List ℕ). Holds noLines z []) (sym (b .no-fact)) fresh-holds)
 
-    opened-long : length (opened noFacts) ≡ 8200
+    opened-long : length (opened noFacts) ≡ ROOM * WIDTH
     opened-long =
         length-set (set noFacts FIRST END) LAST START ∙ length-set noFacts FIRST END ∙ length-replicate {A = ℕ} (ROOM * WIDTH) 0
 

@@ -4,7 +4,7 @@ use mir.Facts.{ltb-yes, yes-ltb}
 use mathlib.Core.Path.{_≡_, refl, sym, ap, _∙_, subst}
 use mathlib.Core.Bool.{Bool, true, false, cond}
 use mathlib.Core.List.{List, [], _∷_, _++_}
-use Prim.Native.Nat.{ℕ, _+_, _-_, _<_, _≤_}
+use Prim.Native.Nat.{ℕ, _+_, _-_, _*_, _<_, _≤_}
 use native.Mathlib.Omega.{arith}
 use native.Mathlib.Numerals.{add-one}
 use native.Mathlib.Decide.{ℕ-discrete}
@@ -21,6 +21,7 @@ use Rattle.rules.specs.Line.{Row, rowOf, contentPart, lineFault}
 use Rattle.rules.specs.Table.{numbers, stands, fault, Verdict, readable, unreadable, readLines, verdict}
 use Rattle.rules.specs.Calls.{partFrom, partOf}
 use Rattle.trees.proofs.Lists.{is-true, is-false, same-test, not-or}
+use Rattle.facts.specs.Memory.{NUMBERS, ROOM, WIDTH}
 use Rattle.facts.specs.Asked.{hasIn}
 use Rattle.facts.specs.Holds.{Holds, partAt}
 use Rattle.facts.proofs.Adding.{Added}
@@ -48,8 +49,8 @@ pub record Reading (text : List ℕ) (place : ℕ) (ls fs : List ℕ) (count : �
   pub holds : Holds ls fs seen
   -- so is the part told for a number
   pub parts : (n : ℕ) → partFrom n 0 (lines text) ≡ cond (hasIn ls n) (partAt ls fs n) (partFrom n place (lines (drop place text)))
-  pub columns : length ls ≡ 65536
-  pub widths : length fs ≡ 8200
+  pub columns : length ls ≡ NUMBERS
+  pub widths : length fs ≡ ROOM * WIDTH
 
 -- ---- a refused text
 
@@ -116,7 +117,7 @@ module _ (text ls fs : List ℕ) (place c : ℕ) (g : Reading text place ls fs c
       go false q = rw (told-fault rest, q, g .counted)
 
   -- a fault ends the reading
-  pub out : (l : Line) (code : ℕ) → l ≡ nextLine rest → code ≡ faultIn ls c l → (code ≡ 0 → ⊥)
+  pub out : (l : Line) (code : ℕ) → l ≡ nextLine rest → code ≡ faultIn ls c l → (code ≡ accepted → ⊥)
       → Reads text ls fs (told code (c + 1) 0)
   out l code e q f = refused text ls fs code (c + 1) (sym (g .same) ∙ ap (readLines (g .seen)) first-line ∙ faulty-line)
     where
@@ -124,11 +125,11 @@ module _ (text ls fs : List ℕ) (place c : ℕ) (g : Reading text place ls fs c
       is = q ∙ told-fault-is l e
 
       faulty-line : readLines (g .seen) (line ∷ lines (after LF rest)) ≡ unreadable code (c + 1)
-      faulty-line = rw (← is, ne-eqb code 0 f, g .counted)
+      faulty-line = rw (← is, ne-eqb code accepted f, g .counted)
 
   -- ---- the line is good: memory has one row more
 
-  module _ (l : Line) (e : l ≡ nextLine rest) (fine : faultIn ls c l ≡ 0) where
+  module _ (l : Line) (e : l ≡ nextLine rest) (fine : faultIn ls c l ≡ accepted) where
     abbrev pub row : Row
     row = rowOf line
 

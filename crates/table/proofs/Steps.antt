@@ -13,6 +13,7 @@ use lib.Dec.{eqb}
 use borrow.Author.Needs.{needs}
 use borrow.Author.Tests.{not-true, not-false}
 use Rattle.rules.specs.Limits.{BYTES}
+use Rattle.rules.specs.Codes.{accepted, textTooLong, unended}
 use Rattle.rules.specs.Text.{LF, count, ended}
 use Rattle.facts.specs.Memory.{NUMBERS, ROOM, LAST, field, addLine, addFacts, noLines, noFacts, opened}
 use Rattle.line.specs.declared.Line.{Line}
@@ -31,11 +32,11 @@ module _ (text ls fs : List ℕ) (place c : ℕ) (g : Reading text place ls fs c
 
 module _ (text ls fs : List ℕ) (place c code : ℕ) (l : Line) (g : Reading text place ls fs c) (more : place < length text)
     (e : l ≡ nextLine (drop place text)) (q : code ≡ faultIn ls c l) where
-  pub faulty-line : (r : Read) → (code ≡ 0 → ⊥) → r ≡ told code (c + 1) 0 → Reads text ls fs r
+  pub faulty-line : (r : Read) → (code ≡ accepted → ⊥) → r ≡ told code (c + 1) 0 → Reads text ls fs r
   faulty-line r f d = subst (Reads text ls fs) (sym d) (out text ls fs place c g more l code e q f)
 
-  module _ (z : code ≡ 0) where
-    fine : faultIn ls c l ≡ 0
+  module _ (z : code ≡ accepted) where
+    fine : faultIn ls c l ≡ accepted
     fine = sym q ∙ z
 
     pub start-fits : Fits w64 (place + l .start)
@@ -67,7 +68,7 @@ module _ (text ls fs : List ℕ) (place c code : ℕ) (l : Line) (g : Reading te
 
 -- ---- the whole text
 
-pub long-text : (text ls fs : List ℕ) (r : Read) → BYTES < length text → r ≡ told 1 0 0 → Reads text ls fs r
+pub long-text : (text ls fs : List ℕ) (r : Read) → BYTES < length text → r ≡ told textTooLong 0 0 → Reads text ls fs r
 long-text text ls fs r h e = subst (Reads text ls fs) (sym e) (too-long text ls fs h)
 
 count-le : (x : ℕ) (s : List ℕ) → count x s ≤ length s
@@ -83,7 +84,7 @@ pub ends-small : (text : List ℕ) (n : ℕ) → length text ≤ BYTES → n ≡
 ends-small text n h e = record { fits = omega (arith, e, count-le LF text) }
 
 pub open-text : (text ls fs : List ℕ) (n : ℕ) (b : Bool) (r : Read) → length text ≤ BYTES → b ≡ ended text → not b ≡ true
-    → n ≡ count LF text → r ≡ told 2 (n + 1) 0 → Reads text ls fs r
+    → n ≡ count LF text → r ≡ told unended (n + 1) 0 → Reads text ls fs r
 open-text text ls fs n b r h e f q d =
     subst (Reads text ls fs) (sym d) (not-ended text ls fs (n + 1) h (sym e ∙ not-true b f) (ap (λ (k : ℕ). k + 1) q))
 

@@ -7,14 +7,14 @@ use Prim.Native.Nat.{ℕ, zero, suc, _+_, _-_, _*_, _<_, _≤_}
 use native.Mathlib.Omega.{arith}
 use native.Mathlib.Nat.{le-trans}
 use lib.Dec.{eqb, leb}
-use lib.ListN.{length, getD, take, drop, List·getD-eq-default}
+use lib.ListN.{length, getD, take, drop}
 use lib.Seq.{getD-drop, drop-drop}
 use borrow.Author.Needs.{needs}
 use borrow.Author.Tests.{ne-eqb, le-leb, lt-leb, le-ltb, lt-ltb, leb-true, leb-false, not-true, not-false}
 use Rattle.rules.specs.Limits.{GREATEST}
 use Rattle.rules.specs.Lists.{every}
-use Rattle.rules.specs.Text.{digit, noLeadingZero, valueFrom, value}
-use Rattle.text.specs.Reads.{plain, plainRun, NONE, numberIn, numberAt, digitRun, digitsFrom, opens}
+use Rattle.rules.specs.Text.{LF, digit, noLeadingZero, valueFrom, value}
+use Rattle.text.specs.Reads.{byteAt, plain, plainRun, NONE, numberIn, numberAt, digitRun, digitsFrom, opens}
 use Rattle.text.specs.declared.Number.{Number}
 use Rattle.text.proofs.Places.{left-next, left-none}
 use Rattle.text.proofs.Runs.{both, and-false}
@@ -66,9 +66,6 @@ pub ruleset digits = (digits-end, digits-great, digits-low, digits-high, digits-
 
 -- ---- what may open a decimal
 
-pub byte-none : (s : List ℕ) (i : ℕ) → length s ≤ i → 0 ≡ getD s i 0
-byte-none s i h = sym (List·getD-eq-default s 0 h)
-
 pub opens-empty : (x from end : ℕ) → end ≤ from → false ≡ opens x (end - from)
 opens-empty x from end h = rw (le-ltb 0 (end - from) (omega arith))
 
@@ -78,10 +75,10 @@ opens-one x from end e = rw e
 pub opens-more : (x y from end : ℕ) → from < end → (end - from ≡ 1 → ⊥) → y ≡ x → not (eqb y 48) ≡ opens x (end - from)
 opens-more x y from end h n e = rw (lt-ltb 0 (end - from) (omega arith), ne-eqb (end - from) 1 n, e)
 
-pub ruleset openings = (byte-none, opens-empty, opens-one, opens-more, needs)
+pub ruleset openings = (opens-empty, opens-one, opens-more, needs)
 
 -- the first n bytes of t
-opens-is : (t : List ℕ) (n : ℕ) → n ≤ length t → opens (getD t 0 0) n ≡ noLeadingZero (take n t)
+opens-is : (t : List ℕ) (n : ℕ) → n ≤ length t → opens (byteAt t 0) n ≡ noLeadingZero (take n t)
 opens-is [] zero h = refl
 opens-is [] (suc n) h = absurd (omega arith)
 opens-is (x ∷ t) zero h = refl
@@ -133,19 +130,19 @@ digits-run v (x ∷ t) = go (leb v GREATEST && digit x) refl (digits-run (v * 10
     go false q ih = omega arith
 
 -- and where no plain byte follows, they are the plain bytes
-run-none : (t : List ℕ) → plain (getD t 0 0) ≡ false → plainRun t ≡ 0
+run-none : (t : List ℕ) → plain (byteAt t 0) ≡ false → plainRun t ≡ 0
 run-none [] e = refl
 run-none (x ∷ t) e = rw e
 
-run-ends : (v : ℕ) (t : List ℕ) → plain (getD t (digitRun v t) 0) ≡ false → plainRun t ≡ digitRun v t
+run-ends : (v : ℕ) (t : List ℕ) → plain (byteAt t (digitRun v t)) ≡ false → plainRun t ≡ digitRun v t
 run-ends v t e =
     let n : digitRun v t + 0 ≡ digitRun v t = omega arith in
-    let first : getD (drop (digitRun v t) t) 0 0 ≡ getD t (digitRun v t) 0
-    = getD-drop (digitRun v t) t 0 0 ∙ ap (λ (k : ℕ). getD t k 0) n in
+    let first : byteAt (drop (digitRun v t) t) 0 ≡ byteAt t (digitRun v t)
+    = getD-drop (digitRun v t) t 0 LF ∙ ap (byteAt t) n in
     omega (arith, digits-run v t, run-none (drop (digitRun v t) t) (ap plain first ∙ e))
 
 -- where one follows, it is no digit, or what is written is above the greatest number before it
-run-bad : (v : ℕ) (t : List ℕ) → plain (getD t (digitRun v t) 0) ≡ true
+run-bad : (v : ℕ) (t : List ℕ) → plain (byteAt t (digitRun v t)) ≡ true
     → (every digit (take (plainRun t) t) && leb (valueFrom v (take (plainRun t) t)) GREATEST) ≡ false
 run-bad v [] e = absurd (true≢false (sym e))
 run-bad v (x ∷ t) e = go (leb v GREATEST) (digit x) refl refl e (run-bad (v * 10 + (x - 48)) t)
@@ -159,8 +156,8 @@ run-bad v (x ∷ t) e = go (leb v GREATEST) (digit x) refl refl e (run-bad (v * 
     great : leb v GREATEST ≡ false → leb (valueFrom v (x ∷ r)) GREATEST ≡ false
     great q = lt-leb (valueFrom v (x ∷ r)) GREATEST (le-trans (leb-false v GREATEST q) (value-grows v (x ∷ r)))
 
-    go : (a b : Bool) → leb v GREATEST ≡ a → digit x ≡ b → plain (getD (x ∷ t) (cond (a && b) (suc n) 0) 0) ≡ true
-        → (plain (getD t n 0) ≡ true → (every digit r && leb (valueFrom (v * 10 + (x - 48)) r) GREATEST) ≡ false)
+    go : (a b : Bool) → leb v GREATEST ≡ a → digit x ≡ b → plain (byteAt (x ∷ t) (cond (a && b) (suc n) 0)) ≡ true
+        → (plain (byteAt t n) ≡ true → (every digit r && leb (valueFrom (v * 10 + (x - 48)) r) GREATEST) ≡ false)
         → (every digit (take (plainRun (x ∷ t)) (x ∷ t)) && leb (valueFrom v (take (plainRun (x ∷ t)) (x ∷ t))) GREATEST) ≡ false
     go true true p q f ih = rw (digit-plain x q, q) (ih f)
     go true false p q f ih = rw (f, q)
@@ -169,7 +166,7 @@ run-bad v (x ∷ t) e = go (leb v GREATEST) (digit x) refl refl e (run-bad (v * 
 -- ---- the ways through reading a number
 
 -- `found` is what was found of the digits, n the byte behind them, u whether it is plain
-module _ (s : List ℕ) (from n : ℕ) (u : Bool) (found : Number) (e : found ≡ digitsFrom 0 from (drop from s)) (b : n ≡ getD s (found .end) 0)
+module _ (s : List ℕ) (from n : ℕ) (u : Bool) (found : Number) (e : found ≡ digitsFrom 0 from (drop from s)) (b : n ≡ byteAt s (found .end))
     (f : u ≡ plain n) where
   abbrev t : List ℕ
   t = drop from s
@@ -180,8 +177,8 @@ module _ (s : List ℕ) (from n : ℕ) (u : Bool) (found : Number) (e : found �
   place : found .end ≡ from + k
   place = ap (λ (r : Number). r .end) e
 
-  tested : u ≡ plain (getD t k 0)
-  tested = f ∙ ap plain (b ∙ ap (λ (i : ℕ). getD s i 0) place ∙ sym (getD-drop from s k 0))
+  tested : u ≡ plain (byteAt t k)
+  tested = f ∙ ap plain (b ∙ ap (byteAt s) place ∙ sym (getD-drop from s k LF))
 
   pub number-plain : (end : ℕ) → u ≡ true → end ≡ found .end + plainRun (drop (found .end) s)
       → record { end = end; value = NONE } ≡ numberAt s from
@@ -205,7 +202,7 @@ module _ (s : List ℕ) (from n : ℕ) (u : Bool) (found : Number) (e : found �
           rw (bad all (noLeadingZero (take (plainRun t) t)) low (run-bad 0 t (sym tested ∙ q)))
 
   -- w is whether the digits have no leading zero
-  module _ (w : Bool) (q : u ≡ false) (g : w ≡ opens (getD s from 0) (found .end - from)) where
+  module _ (w : Bool) (q : u ≡ false) (g : w ≡ opens (byteAt s from) (found .end - from)) where
     ends : plainRun t ≡ k
     ends = run-ends 0 t (sym tested ∙ q)
 
@@ -216,8 +213,8 @@ module _ (s : List ℕ) (from n : ℕ) (u : Bool) (found : Number) (e : found �
     opened =
         let wide : found .end - from ≡ k = omega (arith, place) in
         let z : from + 0 ≡ from = omega arith in
-        let first : getD t 0 0 ≡ getD s from 0 = getD-drop from s 0 0 ∙ ap (λ (i : ℕ). getD s i 0) z in
-        sym (opens-is t k (digits-le 0 t)) ∙ sym (g ∙ ap (opens (getD s from 0)) wide ∙ ap (λ (x : ℕ). opens x k) (sym first))
+        let first : byteAt t 0 ≡ byteAt s from = getD-drop from s 0 LF ∙ ap (byteAt s) z in
+        sym (opens-is t k (digits-le 0 t)) ∙ sym (g ∙ ap (opens (byteAt s from)) wide ∙ ap (λ (x : ℕ). opens x k) (sym first))
 
     written : numberIn (take (plainRun t) t) ≡ cond (w && leb (found .value) GREATEST) (found .value) NONE
     written =

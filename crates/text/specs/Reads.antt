@@ -6,8 +6,12 @@ use Prim.Native.Nat.{ℕ, suc, _+_, _-_, _*_}
 use lib.Dec.{eqb, leb, ltb}
 use lib.ListN.{length, getD, take, drop}
 use Rattle.rules.specs.Limits.{GREATEST}
-use Rattle.rules.specs.Text.{digit, decimal, valueFrom, value}
+use Rattle.rules.specs.Text.{LF, digit, decimal, valueFrom, value}
 use Rattle.text.specs.declared.Number.{Number}
+
+-- the byte at a place; the end of the text ends a line as an LF does
+abbrev pub byteAt : List ℕ → ℕ → ℕ
+byteAt s place = getD s place LF
 
 -- "32 to 126": what a line may hold besides tabs
 abbrev pub plain : ℕ → Bool

@@ -3,9 +3,9 @@ use rules::limits::GREATEST;
 ghost use mathlib.Core.Bool.{_&&_};
 ghost use mathlib.Core.Path.{_≡_};
 ghost use Prim.Native.Nat.{_+_, _-_};
-ghost use lib.ListN.{getD, drop};
+ghost use lib.ListN.{drop};
 ghost use Rattle.rules.specs.Text.{LF as lineFeed, count, ended as endedOf};
-ghost use Rattle.text.specs.Reads.{plain as plainOf, plainRun, fourPlain, digitsFrom, opens, numberAt};
+ghost use Rattle.text.specs.Reads.{byteAt, plain as plainOf, plainRun, fourPlain, digitsFrom, opens, numberAt};
 
 pub const TAB: u8 = 9;
 
@@ -16,6 +16,13 @@ pub const NONE: u32 = 65536;
 const ZERO: u8 = 48;
 
 const NINE: u8 = 57;
+
+// The byte at a place. The end of the text ends a line as an LF does.
+pub fn byte_at(s: &[u8], at: usize) -> u8
+    ensures { λ r. ⌜ r ≡ byteAt (now (s .entry)) at ⌝ }
+{
+    if at < s.len() { s[at] } else { LF }
+}
 
 pub fn plain(x: u8) -> bool
     ensures { λ r. ⌜ r ≡ plainOf x ⌝ }
@@ -108,16 +115,9 @@ fn digits_from(s: &[u8], from: usize) -> Number
     Number { end: i, value: v }
 }
 
-// The byte at a place. At the end of the text it is 0, which is not plain.
-fn byte(s: &[u8], at: usize) -> u8
-    ensures { λ r. ⌜ r ≡ getD (now (s .entry)) at 0 ⌝ }
-{
-    if at < s.len() { s[at] } else { 0 }
-}
-
 // Whether what stands between two places may open a decimal: not empty, and 0 first only where it stands alone.
 fn no_leading_zero(s: &[u8], from: usize, end: usize) -> bool
-    ensures { λ r. ⌜ r ≡ opens (getD (now (s .entry)) from 0) (end - from) ⌝ }
+    ensures { λ r. ⌜ r ≡ opens (byteAt (now (s .entry)) from) (end - from) ⌝ }
 {
     if end <= from {
         return false;
@@ -125,7 +125,7 @@ fn no_leading_zero(s: &[u8], from: usize, end: usize) -> bool
     if end - from == 1 {
         return true;
     }
-    byte(s, from) != ZERO
+    byte_at(s, from) != ZERO
 }
 
 // The plain bytes from a place on, with NONE where they write no number up to 65,535. Digits that a tab ends are gone over once.
@@ -133,7 +133,7 @@ pub fn number_at(s: &[u8], from: usize) -> Number
     ensures { λ r. ⌜ r ≡ numberAt (now (s .entry)) from ⌝ }
 {
     let digits = digits_from(s, from);
-    if plain(byte(s, digits.end)) {
+    if plain(byte_at(s, digits.end)) {
         let end = plain_rest(s, digits.end);
         return Number { end, value: NONE };
     }

@@ -12,11 +12,11 @@ sub-if2 c = search openings
 returns-2 : tie.Need-returns-2
 returns-2 c = search openings
 
-byte-requires : tie.Need-byte-requires
-byte-requires c κs = search openings
+byte-at-requires : tie.Need-byte-at-requires
+byte-at-requires c κs = search openings
 
 returns-3 : tie.Need-returns-3
 returns-3 c = search openings
 
 pub no-leading-zero-spec : {M : Type 1} → statement M
-no-leading-zero-spec = tie.close (tie.spec returns sub-if2 returns-2 byte-requires returns-3)
+no-leading-zero-spec = tie.close (tie.spec returns sub-if2 returns-2 byte-at-requires returns-3)

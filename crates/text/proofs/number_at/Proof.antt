@@ -6,8 +6,8 @@ use Rattle.text.proofs.number_at.Tie as tie
 digits-from-requires : tie.Need-digits-from-requires
 digits-from-requires c κs = search numbers
 
-byte-requires : tie.Need-byte-requires
-byte-requires c κs = search numbers
+byte-at-requires : tie.Need-byte-at-requires
+byte-at-requires c κs = search numbers
 
 plain-requires : tie.Need-plain-requires
 plain-requires c κs = search numbers
@@ -35,7 +35,7 @@ number-at-spec =
     tie.close
     (tie.spec
     digits-from-requires
-    byte-requires
+    byte-at-requires
     plain-requires
     plain-rest-requires
     returns

@@ -1,3 +1,4 @@
+-- `is_record` meets its contract. Assumes nothing.
 use borrow.Author.Tests.{le-leb, lt-leb}
 use Rattle.rules.proofs.record.Record.is_record.Statement.{statement}
 use Rattle.rules.proofs.record.Record.is_record.Tie as tie
