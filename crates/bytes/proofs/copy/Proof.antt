@@ -1,0 +1,74 @@
+-- The proof of `copy`: what is left of the part, put from here on, gives what is wanted from the start (Copies). Assumes nothing.
+use Rattle.bytes.proofs.Copies.{Copied, copies}
+use Rattle.bytes.proofs.copy.Statement.{statement}
+use Rattle.bytes.proofs.copy.Tie as tie
+use Rattle.bytes.proofs.copy.Reads as reads
+use Rattle.bytes.proofs.copy.Lts as lts
+
+abbrev Inv-loop : tie.InvT-loop
+Inv-loop part out₀ at left₀ i₀ out left i = Copied out₀ out at part i left
+
+abbrev μ-loop : tie.MeasureT-loop
+μ-loop part out₀ at left₀ i₀ out left i = left
+
+-- src/lib.rt:71:5
+loop-holds : tie.Need-loop-holds Inv-loop μ-loop
+loop-holds c = search copies
+
+-- src/lib.rt:72:18
+add-to : tie.Need-add-to Inv-loop μ-loop
+add-to c = search copies
+
+-- src/lib.rt:73:19
+shared-slice-read-out : tie.Need-shared-slice-read-out Inv-loop μ-loop
+shared-slice-read-out c = search copies
+
+-- src/lib.rt:73:9
+slice-write-out : tie.Need-slice-write-out Inv-loop μ-loop
+slice-write-out c = search copies
+
+-- src/lib.rt:74:9
+add-i : tie.Need-add-i Inv-loop μ-loop
+add-i c = search copies
+
+-- src/lib.rt:75:9
+sub-left : tie.Need-sub-left Inv-loop μ-loop
+sub-left c = search copies
+
+-- src/lib.rt:71:5
+loop-less : tie.Need-loop-less Inv-loop μ-loop
+loop-less c = search copies
+
+-- src/lib.rt:71:5
+loop-again : tie.Need-loop-again Inv-loop μ-loop
+loop-again c = search copies
+
+-- src/lib.rt:77:5
+add-result : tie.Need-add-result Inv-loop μ-loop
+add-result c = search copies
+
+-- src/lib.rt:65:1
+same-length : tie.Need-same-length Inv-loop μ-loop
+same-length c = search copies
+
+-- src/lib.rt:65:1
+returns : tie.Need-returns Inv-loop μ-loop
+returns c = search copies
+
+pub copy-spec : {M : Type 1} → statement M
+copy-spec =
+    tie.close
+    (tie.spec
+    Inv-loop
+    μ-loop
+    loop-holds
+    add-to
+    shared-slice-read-out
+    slice-write-out
+    add-i
+    sub-left
+    loop-less
+    loop-again
+    add-result
+    same-length
+    returns)
