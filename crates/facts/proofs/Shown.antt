@@ -251,6 +251,10 @@ module _ (ls fs : List ℕ) (t : List Row) (h : Holds ls fs t) (ok : Readable t)
       let k = yes-list r i in
       (after-given _ (leave r START k (here refl)), before-given _ (enter-end r k))
 
+  -- each fact stands in the field of its parent or of the one before
+  pub linked : (a : PositionFact) → a ∈ factsOf t .positions → field ls fs (who (a .parent) (a .before)) (way (a .before)) ≡ a .after
+  linked a m = out a (fact-parent t a m) (in-table t a m)
+
   pub shown : View (asked ls fs) (factsOf t .positions)
   shown =
       record {

@@ -1,0 +1,212 @@
+-- The proof of `write_list` and `write_record`, which call each other: the count of records still unwritten falls with each record, and
+-- each turn is a law of Turns. Assumes nothing.
+use borrow.Author.Needs.{needs}
+use Rattle.write.proofs.Turns.{turns}
+use Prim.Native.Nat.{ℕ, _+_, _<_}
+use borrow.Fn.Kinds.{In}
+use borrow.Fn.PlainCycle.{Measures, is, falls, and}
+use Rattle.write.proofs.write_list.Reads as write-list
+use Rattle.write.proofs.write_list.Kinds as write-list-kinds
+use Rattle.write.proofs.+write_list+write_record.Lts-write_list as write-list-lts
+use Rattle.write.proofs.write_record.Reads as write-record
+use Rattle.write.proofs.write_record.Kinds as write-record-kinds
+use Rattle.write.proofs.+write_list+write_record.Lts-write_record as write-record-lts
+use Rattle.facts.proofs.field.Reads as field-reads
+use Rattle.write.proofs.write_row.Reads as write-row-reads
+use Rattle.write.proofs.+write_list+write_record.{statement}
+use Rattle.write.proofs.+write_list+write_record.Tie.{close}
+
+abbrev μ-write-list : Measures 5 write-list-kinds.ps ℕ
+μ-write-list κs a = a .1 .1 .1 .1 .0 .left + a .1 .1 .1 .1 .0 .left + 1
+
+abbrev μ-write-record : Measures 5 write-record-kinds.ps ℕ
+μ-write-record κs a = a .1 .1 .1 .1 .0 .left + a .1 .1 .1 .1 .0 .left
+
+abbrev write-list-at : ℕ → In 5 write-list-kinds.ps
+write-list-at t =
+    and 5 write-list-kinds.ps (is 5 write-list-kinds.ps μ-write-list t) write-list.Pre
+
+abbrev write-list-below : ℕ → In 5 write-list-kinds.ps
+write-list-below t =
+    and 5 write-list-kinds.ps (falls 5 write-list-kinds.ps _<_ μ-write-list t) write-list.Pre
+
+abbrev write-record-at : ℕ → In 5 write-record-kinds.ps
+write-record-at t =
+    and 5 write-record-kinds.ps (is 5 write-record-kinds.ps μ-write-record t) write-record.Pre
+
+abbrev write-record-below : ℕ → In 5 write-record-kinds.ps
+write-record-below t =
+    and
+    5
+    write-record-kinds.ps
+    (falls 5 write-record-kinds.ps _<_ μ-write-record t)
+    write-record.Pre
+
+-- src/lib.rt:108:9
+write-list-returns : (t : ℕ) → write-list-lts.Need-returns (
+  write-record-below t,
+  write-record.Post,
+  field-reads.Asked,
+  field-reads.Learnt,
+  write-list-below t,
+  write-list.Post,
+) (write-list-at t) write-list.Post
+write-list-returns t c = search turns
+
+-- src/lib.rt:110:9
+write-list-write-record-requires : (t : ℕ) → write-list-lts.Need-write-record-requires (
+  write-record-below t,
+  write-record.Post,
+  field-reads.Asked,
+  field-reads.Learnt,
+  write-list-below t,
+  write-list.Post,
+) (write-list-at t) write-list.Post
+write-list-write-record-requires t c κs = search turns
+
+-- src/lib.rt:111:9
+write-list-field-requires : (t : ℕ) → write-list-lts.Need-field-requires (
+  write-record-below t,
+  write-record.Post,
+  field-reads.Asked,
+  field-reads.Learnt,
+  write-list-below t,
+  write-list.Post,
+) (write-list-at t) write-list.Post
+write-list-field-requires t c κs = search turns
+
+-- src/lib.rt:112:5
+write-list-write-list-requires : (t : ℕ) → write-list-lts.Need-write-list-requires (
+  write-record-below t,
+  write-record.Post,
+  field-reads.Asked,
+  field-reads.Learnt,
+  write-list-below t,
+  write-list.Post,
+) (write-list-at t) write-list.Post
+write-list-write-list-requires t c κs =
+    let s = c .before .before .before .before .before .before .before .before .before in
+    let falls : c .before .before .before .before .write-record .result .left < s .args .p .left = search turns in
+    (search needs, search turns)
+
+-- src/lib.rt:93:1
+write-list-same-length : (t : ℕ) → write-list-lts.Need-same-length (
+  write-record-below t,
+  write-record.Post,
+  field-reads.Asked,
+  field-reads.Learnt,
+  write-list-below t,
+  write-list.Post,
+) (write-list-at t) write-list.Post
+write-list-same-length t c = search turns
+
+-- src/lib.rt:93:1
+write-list-returns-2 : (t : ℕ) → write-list-lts.Need-returns-2 (
+  write-record-below t,
+  write-record.Post,
+  field-reads.Asked,
+  field-reads.Learnt,
+  write-list-below t,
+  write-list.Post,
+) (write-list-at t) write-list.Post
+write-list-returns-2 t c = search turns
+
+-- src/lib.rt:86:9
+write-record-write-row-requires : (t : ℕ) → write-record-lts.Need-write-row-requires (
+  write-row-reads.Asked,
+  write-row-reads.Learnt,
+  field-reads.Asked,
+  field-reads.Learnt,
+  write-list-below t,
+  write-list.Post,
+) (write-record-at t) write-record.Post
+write-record-write-row-requires t c κs = search turns
+
+-- src/lib.rt:87:16
+write-record-sub-left : (t : ℕ) → write-record-lts.Need-sub-left (
+  write-row-reads.Asked,
+  write-row-reads.Learnt,
+  field-reads.Asked,
+  field-reads.Learnt,
+  write-list-below t,
+  write-list.Post,
+) (write-record-at t) write-record.Post
+write-record-sub-left t c = search turns
+
+-- src/lib.rt:88:9
+write-record-field-requires : (t : ℕ) → write-record-lts.Need-field-requires (
+  write-row-reads.Asked,
+  write-row-reads.Learnt,
+  field-reads.Asked,
+  field-reads.Learnt,
+  write-list-below t,
+  write-list.Post,
+) (write-record-at t) write-record.Post
+write-record-field-requires t c κs = search turns
+
+-- src/lib.rt:89:5
+write-record-write-list-requires : (t : ℕ) → write-record-lts.Need-write-list-requires (
+  write-row-reads.Asked,
+  write-row-reads.Learnt,
+  field-reads.Asked,
+  field-reads.Learnt,
+  write-list-below t,
+  write-list.Post,
+) (write-record-at t) write-record.Post
+write-record-write-list-requires t c κs = search turns
+
+-- src/lib.rt:72:1
+write-record-same-length : (t : ℕ) → write-record-lts.Need-same-length (
+  write-row-reads.Asked,
+  write-row-reads.Learnt,
+  field-reads.Asked,
+  field-reads.Learnt,
+  write-list-below t,
+  write-list.Post,
+) (write-record-at t) write-record.Post
+write-record-same-length t c = search turns
+
+-- src/lib.rt:72:1
+write-record-returns : (t : ℕ) → write-record-lts.Need-returns (
+  write-row-reads.Asked,
+  write-row-reads.Learnt,
+  field-reads.Asked,
+  field-reads.Learnt,
+  write-list-below t,
+  write-list.Post,
+) (write-record-at t) write-record.Post
+write-record-returns t c = search turns
+
+pub +write-list+write-record-spec : {M : Type 1} → statement M
++write-list+write-record-spec = close μ-write-list μ-write-record (λ t. write-list-lts.spec (
+  write-record-below t,
+  write-record.Post,
+  field-reads.Asked,
+  field-reads.Learnt,
+  write-list-below t,
+  write-list.Post,
+)
+    (write-list-at t)
+    write-list.Post
+    (write-list-returns t)
+    (write-list-write-record-requires t)
+    (write-list-field-requires t)
+    (write-list-write-list-requires t)
+    (write-list-same-length t)
+    (write-list-returns-2 t))
+    λ t. write-record-lts.spec (
+      write-row-reads.Asked,
+      write-row-reads.Learnt,
+      field-reads.Asked,
+      field-reads.Learnt,
+      write-list-below t,
+      write-list.Post,
+    )
+    (write-record-at t)
+    write-record.Post
+    (write-record-write-row-requires t)
+    (write-record-sub-left t)
+    (write-record-field-requires t)
+    (write-record-write-list-requires t)
+    (write-record-same-length t)
+    (write-record-returns t)

@@ -1,0 +1,64 @@
+-- The part of a text that a place tells, and the line of a record made with it. texts are the texts, handed over as references or as
+-- their bytes; ls and fs are the two arrays, r is a parent, n a record. Assumes nothing.
+use mathlib.Core.Path.{_≡_, refl, ap, subst}
+use mathlib.Core.List.{List, [], _∷_, map}
+use Prim.Native.Nat.{ℕ, zero, suc, _+_, _-_, _/_, _%_, _<_, _≤_}
+use native.Mathlib.Omega.{arith}
+use native.Mathlib.Nat.{add-sub-cancel-left}
+use denote.Ref.{RefT, now}
+use lib.ListN.{length, getD, take, drop}
+use borrow.Author.Needs.{needs}
+use Rattle.rules.specs.Written.{width, line}
+use Rattle.readback.proofs.ReadBack.{line-length}
+use Rattle.facts.specs.Memory.{PLACE, LENGTH, field}
+use Rattle.bytes.specs.Put.{Put}
+use Rattle.write.specs.Stored.{SPAN, partIn, Lies, HasContent, contentAt}
+use Rattle.write.specs.Writing.{rowAt}
+
+-- ---- one of the texts
+
+pub text-at : (texts : List (RefT (List ℕ))) (k : ℕ) (other : RefT (List ℕ)) → k < length texts
+    → now (getD texts k other) ≡ getD (map now texts) k []
+text-at [] k other h = absurd (omega arith)
+text-at (x ∷ texts) zero other h = refl
+text-at (x ∷ texts) (suc k) other h = text-at texts k other (omega arith)
+
+texts-count : (texts : List (RefT (List ℕ))) → length (map now texts) ≡ length texts
+texts-count [] = refl
+texts-count (x ∷ texts) = ap suc (texts-count texts)
+
+-- ---- the part
+
+module _ (texts : List (RefT (List ℕ))) (place long : ℕ) (w : Lies (map now texts) place long) where
+  pub part-text : place / SPAN < length texts
+  part-text = omega (arith, w .text, texts-count texts)
+
+  module _ (text : List ℕ) (e : text ≡ getD (map now texts) (place / SPAN) []) where
+    pub part-ends : place % SPAN + long ≤ length text
+    part-ends = rw e (w .within)
+
+    pub part-cut : take (place % SPAN + long - place % SPAN) (drop (place % SPAN) text) ≡ partIn (map now texts) place long
+    part-cut = rw (add-sub-cancel-left (place % SPAN) long, e)
+
+pub ruleset parts = (text-at, part-text, part-ends, part-cut, needs)
+
+-- ---- the record's line
+
+module _ (texts : List (List ℕ)) (ls fs : List ℕ) (r n place long : ℕ) (p : place ≡ field ls fs n PLACE)
+    (k : long ≡ field ls fs n LENGTH) where
+  pub row-lies : HasContent texts ls fs n → Lies texts place long
+  row-lies w = rw (p, k) w
+
+  module _ (content : List ℕ) (e : content ≡ partIn texts place long) where
+    is : content ≡ contentAt texts ls fs n
+    is = rw (e, p, k)
+
+    pub row-room : (at room : ℕ) → at + length (line (rowAt texts ls fs r n)) ≤ room
+        → at + (length content + (3 + width n + width r)) ≤ room
+    row-room at room h = omega (arith, ap length is, line-length (rowAt texts ls fs r n))
+
+    pub row-put : {o o′ : List ℕ} {at next : ℕ} → Put o o′ at next (line (record { number = n; parent = r; content = content }))
+        → Put o o′ at next (line (rowAt texts ls fs r n))
+    row-put {o} {o′} {at} {next} w = subst (λ (c : List ℕ). Put o o′ at next (line (record { number = n; parent = r; content = c }))) is w
+
+pub ruleset rowings = (row-lies, row-room, row-put, needs)

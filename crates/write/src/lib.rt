@@ -1,0 +1,139 @@
+// A table's written form, from memory into a lent buffer: a record first, then its list; a list is its records. `texts` are those that
+// hold the contents, r is a parent, n a record or END. The links are asked of memory, so any table that lies there can be written.
+use bytes::write_line;
+use facts::FACTS;
+use facts::FIRST;
+use facts::FOLLOWER;
+use facts::LENGTH;
+use facts::NUMBERS;
+use facts::PLACE;
+use facts::field;
+use rules::record::Record;
+ghost use mathlib.Core.Path.{_≡_};
+ghost use mathlib.Core.List.{[], map};
+ghost use Prim.Native.Nat.{_+_, _<_, _≤_};
+ghost use lib.ListN.{length, getD};
+ghost use Rattle.rules.specs.Written.{line};
+ghost use Rattle.bytes.specs.Put.{Put};
+ghost use Rattle.write.specs.Stored.{SPAN, partIn, Lies, HasContent};
+ghost use Rattle.write.specs.Writing.{rowAt, ListReady, RecordReady, ListWritten, RecordWritten, TableReady, TableWritten};
+
+// Places of a text that are told apart.
+pub const SPAN: u32 = 65536;
+
+// Where the next byte goes, and how many records are still unwritten.
+pub struct Progress {
+    pub at: usize,
+    pub left: usize,
+}
+
+// One of the texts.
+fn text_of<'a>(texts: &[&'a [u8]], k: usize) -> &'a [u8]
+    requires { ⌜ k < length (now texts) ⌝ }
+    ensures { λ r. ⌜ now r ≡ getD (map now (now (texts .entry))) k [] ⌝ }
+{
+    texts[k]
+}
+
+// So many bytes from a place in the texts on.
+fn part<'a>(texts: &[&'a [u8]], place: u32, long: u32) -> &'a [u8]
+    requires { ⌜ Lies (map now (now texts)) place long ⌝ }
+    ensures { λ r. ⌜ now r ≡ partIn (map now (now (texts .entry))) place long ⌝ }
+{
+    let text = text_of(texts, (place / SPAN) as usize);
+    let start = (place % SPAN) as usize;
+    let end = start + long as usize;
+    &text[start..end]
+}
+
+// The line of a record.
+fn write_row<'a>(
+    texts: &[&'a [u8]],
+    lines: &[u16; NUMBERS],
+    facts: &[u32; FACTS],
+    out: &mut [u8],
+    at: usize,
+    r: u32,
+    n: u32,
+) -> usize
+    requires { ⌜ HasContent (map now (now texts)) (now lines) (now facts) n
+        × (at + length (line (rowAt (map now (now texts)) (now lines) (now facts) r n)) ≤ length (now out)) ⌝ }
+    ensures { λ z.
+        ⌜ Put (now (out .entry)) (now (out .exit)) at z
+        (line (rowAt (map now (now (texts .entry))) (now (lines .entry)) (now (facts .entry)) r n)) ⌝ }
+{
+    let place = field(lines, facts, n, PLACE);
+    let long = field(lines, facts, n, LENGTH);
+    let content = part(texts, place, long);
+    write_line(n, r, content, out, at)
+}
+
+// A record, then its list.
+pub fn write_record<'a>(
+    texts: &[&'a [u8]],
+    lines: &[u16; NUMBERS],
+    facts: &[u32; FACTS],
+    out: &mut [u8],
+    p: Progress,
+    r: u32,
+    n: u32,
+) -> Progress
+    requires { ⌜ RecordReady (map now (now texts)) (now lines) (now facts) r n (p .at) (p .left) (length (now out)) ⌝ }
+    ensures { λ z.
+        ⌜ RecordWritten (map now (now (texts .entry))) (now (lines .entry)) (now (facts .entry)) r n
+        (now (out .entry)) (now (out .exit)) (p .at) (p .left) (z .at) (z .left) ⌝ }
+{
+    let at = write_row(texts, lines, facts, out, p.at, r, n);
+    let left = p.left - 1;
+    let first = field(lines, facts, n, FIRST);
+    write_list(texts, lines, facts, out, Progress { at, left }, n, first)
+}
+
+// The records of a list from `n` on, each with all below it.
+pub fn write_list<'a>(
+    texts: &[&'a [u8]],
+    lines: &[u16; NUMBERS],
+    facts: &[u32; FACTS],
+    out: &mut [u8],
+    p: Progress,
+    r: u32,
+    n: u32,
+) -> Progress
+    requires { ⌜ ListReady (map now (now texts)) (now lines) (now facts) r n (p .at) (p .left) (length (now out)) ⌝ }
+    ensures { λ z.
+        ⌜ ListWritten (map now (now (texts .entry))) (now (lines .entry)) (now (facts .entry)) r n
+        (now (out .entry)) (now (out .exit)) (p .at) (p .left) (z .at) (z .left) ⌝ }
+{
+    if n == Record::END.number {
+        return p;
+    }
+    let q = write_record(texts, lines, facts, out, p, r, n);
+    let next = field(lines, facts, n, FOLLOWER);
+    write_list(texts, lines, facts, out, q, r, next)
+}
+
+// A table of `count` records, from byte 0 on.
+pub fn write_table<'a>(
+    texts: &[&'a [u8]],
+    lines: &[u16; NUMBERS],
+    facts: &[u32; FACTS],
+    out: &mut [u8],
+    count: usize,
+)
+    requires { ⌜ TableReady (map now (now texts)) (now lines) (now facts) count (length (now out)) ⌝ }
+    ensures { λ z.
+        ⌜ TableWritten (map now (now (texts .entry))) (now (lines .entry)) (now (facts .entry))
+        (now (out .entry)) (now (out .exit)) ⌝ }
+{
+    let top = Record::TOP.number;
+    let first = field(lines, facts, top, FIRST);
+    write_list(
+        texts,
+        lines,
+        facts,
+        out,
+        Progress { at: 0, left: count },
+        top,
+        first,
+    );
+}
