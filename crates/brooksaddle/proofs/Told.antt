@@ -2,23 +2,27 @@
 -- two arrays after reading, a is what reading told, n is a number. Assumes nothing.
 use mathlib.Core.Path.{_≡_, refl, sym, ap, _∙_, subst}
 use mathlib.Core.Bool.{Bool, true, false, true≢false}
-use mathlib.Core.List.{List}
-use Prim.Native.Nat.{ℕ, _+_, _-_, _<_, _≤_}
+use mathlib.Core.List.{List, [], _∷_}
+use Prim.Native.Nat.{ℕ, _+_, _-_, _/_, _%_, _<_, _≤_}
 use native.Mathlib.Omega.{arith}
-use lib.Dec.{T}
+use lib.Dec.{T, ltb}
 use denote.Ref.{RefT, ptr, now}
 use lib.ListN.{length, take, drop}
 use borrow.Author.Needs.{needs}
-use borrow.Author.Tests.{lt-ltb, ltb-true}
+use borrow.Author.Tests.{lt-ltb, le-ltb, ltb-true}
 use Rattle.rules.specs.Line.{Row}
 use Rattle.rules.specs.Table.{stands, Verdict, readable, unreadable, verdict}
 use Rattle.rules.specs.Demands.{Readable}
-use Rattle.rules.specs.Calls.{checked, noPart, partOf, contentAnswer}
-use Rattle.rules.specs.Promises.{Checks, IsPart, HandsBack}
+use Rattle.rules.specs.Codes.{tableTooShort}
+use Rattle.rules.specs.Lists.{_∈_}
+use Rattle.rules.specs.Written.{tidied}
+use Rattle.rules.specs.Calls.{checked, tidyTold, tidyOf, tidyInto, noPart, partOf, contentAnswer}
+use Rattle.rules.specs.Promises.{Checks, Tidies, IsPart, HandsBack}
 use Rattle.readback.proofs.Following.{good-readable, good-few}
 use Rattle.readback.proofs.Faults.{stands-in, in-stands}
-use Rattle.readback.proofs.Accepting.{good, refused-code}
-use Rattle.readback.proofs.Parts.{part-none, part-within}
+use Rattle.readback.proofs.Accepting.{accepted-text, good, refused-code}
+use Rattle.readback.proofs.Tidying.{tidied-length}
+use Rattle.readback.proofs.Parts.{part-none, part-content, part-within}
 use Rattle.facts.specs.Memory.{ROOM, PLACE, LENGTH, lineAt, field}
 use Rattle.facts.specs.Asked.{hasIn}
 use Rattle.facts.specs.Holds.{Holds}
@@ -26,8 +30,19 @@ use Rattle.facts.proofs.Shown.{number-row}
 use Rattle.rules.specs.declared.answers.Part.{Part}
 use Rattle.table.specs.declared.Read.{Read}
 use Rattle.table.specs.Read.{readTold, Reads}
+use Rattle.write.specs.Stored.{SPAN, partIn, Lies, HasContent, contentAt, Stored}
+use Rattle.write.specs.Writing.{TableReady, TableWritten}
+use Rattle.trees.proofs.OneTable.{row-number}
 use Rattle.depth.specs.Climbing.{greatestOn, Climbs}
 use Rattle.depth.proofs.Greatest.{climbs, greatest}
+
+-- a part of a text that stands first lies there
+in-first : (text : List ℕ) (place long : ℕ) → place < SPAN → place + long ≤ length text → (content : List ℕ)
+    → content ≡ take long (drop place text) → Lies (text ∷ []) place long × (content ≡ partIn (text ∷ []) place long)
+in-first text place long h g content e =
+    let first : place / SPAN ≡ 0 = omega arith in
+    let same : place % SPAN ≡ place = omega arith in
+    (record { text = omega arith; within = rw (first, same) g }, rw (first, same) e)
 
 module _ (text ls fs : List ℕ) (a : Read) (w : Reads text ls fs a) where
   -- the verdict's own numbers
@@ -45,6 +60,20 @@ module _ (text ls fs : List ℕ) (a : Read) (w : Reads text ls fs a) where
       go (unreadable c l) q =
           let z = tells (unreadable c l) q in
           λ i. record { code = (e ∙ ap (λ (y : Read). y .code) z) i; line = (d ∙ ap (λ (y : Read). y .line) z) i; count = 0; depth = 0 }
+
+  pub tidy-refused : (buffer : List ℕ) (code line : ℕ) → code ≡ a .code → line ≡ a .line → (code ≡ 0 → ⊥)
+      → Tidies text buffer (tidyTold code line 0) buffer
+  tidy-refused buffer code line e d f = record { answered = answer (verdict text) refl; buffered = stays (verdict text) refl }
+    where
+      answer : (v : Verdict) → verdict text ≡ v → tidyTold code line 0 ≡ tidyOf v (length buffer)
+      answer (readable t) q = absurd (f (e ∙ ap (λ (z : Read). z .code) (tells (readable t) q)))
+      answer (unreadable c l) q =
+          let z = tells (unreadable c l) q in
+          λ i. tidyTold ((e ∙ ap (λ (y : Read). y .code) z) i) ((d ∙ ap (λ (y : Read). y .line) z) i) 0
+
+      stays : (v : Verdict) → verdict text ≡ v → buffer ≡ tidyInto v buffer
+      stays (readable t) q = absurd (f (e ∙ ap (λ (z : Read). z .code) (tells (readable t) q)))
+      stays (unreadable c l) q = refl
 
   pub part-refused : (n : ℕ) (p : Part) → (a .code ≡ 0 → ⊥) → p ≡ noPart → p ≡ contentAnswer text n
   part-refused n p f e = e ∙ go (verdict text) refl
@@ -98,6 +127,47 @@ module _ (text ls fs : List ℕ) (a : Read) (w : Reads text ls fs a) where
           ∙ ap checked (sym (table .is));
     }
 
+    -- ---- tidy
+
+    long : length (tidied t) ≡ length text
+    long = tidied-length text t (table .is)
+
+    -- the table's text holds its contents
+    stored : Stored (text ∷ []) ls fs t
+    stored = record { readable = ok; holds = holds; lies = λ x m. place x m .0; contents = λ x m. place x m .1 }
+      where
+        place : (x : Row) → x ∈ t → HasContent (text ∷ []) ls fs (x .number) × (x .content ≡ contentAt (text ∷ []) ls fs (x .number))
+        place x m =
+            let e = w .placed t (table .is) (x .number) (row-number t x m) in
+            let s : field ls fs (x .number) PLACE ≡ contentAnswer text (x .number) .start = ap (λ (p : Part). p .start) e in
+            let k : field ls fs (x .number) LENGTH ≡ contentAnswer text (x .number) .length = ap (λ (p : Part). p .length) e in
+            in-first text _ _ (omega (arith, accepted-text text t (table .is) .short, part-within text t (table .is) x m, s))
+            (omega (arith, part-within text t (table .is) x m, s, k)) (x .content)
+            (sym (part-content text t (table .is) x m) ∙ (λ i. take (sym k i) (drop (sym s i) text)))
+
+    pub tidy-short : (buffer : List ℕ) → length buffer < length text
+        → Tidies text buffer (tidyTold tableTooShort 0 (length text)) buffer
+    tidy-short buffer h =
+        let b : ltb (length buffer) (length (tidied t)) ≡ true = lt-ltb (length buffer) (length (tidied t)) (omega (arith, long)) in
+        record {
+          answered = ap (tidyTold tableTooShort 0) (sym long) ∙ rw (table .is, b);
+          buffered = rw (table .is, b);
+        }
+
+    pub tidy-ready : (buffer : List ℕ) → length text ≤ length buffer → TableReady (text ∷ []) ls fs (a .count) (length buffer)
+    tidy-ready buffer h = record { t = t; stored = stored; counted = table .counted; fits = omega (arith, long) }
+
+    pub tidy-accepted : (buffer buffer′ : List ℕ) (code : ℕ) → code ≡ a .code → length text ≤ length buffer
+        → TableWritten (text ∷ []) ls fs buffer buffer′ → Tidies text buffer (tidyTold code 0 (length text)) buffer′
+    tidy-accepted buffer buffer′ code e h d =
+        let b : ltb (length buffer) (length (tidied t)) ≡ false = le-ltb (length buffer) (length (tidied t)) (omega (arith, long)) in
+        record {
+          answered = (λ i. tidyTold ((e ∙ fine) i) 0 (sym long i)) ∙ rw (table .is, b);
+          buffered = d .all t stored ∙ rw (table .is, b);
+        }
+
+    -- ---- content
+
     pub part-absent : (n : ℕ) (b : Bool) (p : Part) → b ≡ hasIn ls n → b ≡ false → p ≡ noPart → p ≡ contentAnswer text n
     part-absent n b p e f q =
         q ∙ sym (part-none text t (table .is) n (λ m. true≢false (sym (lt-ltb 0 (lineAt ls n) (holds .known n m)) ∙ sym e ∙ f)))
@@ -108,7 +178,19 @@ module _ (text ls fs : List ℕ) (a : Read) (w : Reads text ls fs a) where
         (λ i. record { start = p i; length = q i })
         ∙ w .placed t (table .is) n (holds .only n (ltb-true 0 (lineAt ls n) (sym e ∙ f)))
 
-pub ruleset tellings = (check-refused, check-climbs, check-accepted, part-refused, part-absent, part-there, needs)
+pub ruleset tellings = (
+  check-refused,
+  check-climbs,
+  check-accepted,
+  part-refused,
+  part-absent,
+  part-there,
+  tidy-refused,
+  tidy-short,
+  tidy-ready,
+  tidy-accepted,
+  needs,
+)
 
 -- ---- the part that is told lies in the text
 

@@ -8,11 +8,14 @@ use facts::field;
 use facts::has;
 use rules::answers::Checked;
 use rules::answers::Part;
+use rules::answers::Tidied;
 use rules::codes::ACCEPTED;
+use rules::codes::TABLE_TOO_SHORT;
 use table::read_table;
+use write::write_table;
 ghost use mathlib.Core.Path.{_≡_};
 ghost use Rattle.rules.specs.Calls.{noPart, contentAnswer};
-ghost use Rattle.rules.specs.Promises.{Checks, HandsBack};
+ghost use Rattle.rules.specs.Promises.{Checks, Tidies, HandsBack};
 
 // ---- check
 
@@ -47,6 +50,48 @@ pub extern "C" fn brooksaddle_check(text: &[u8]) -> Checked
     ensures { λ r. ⌜ Checks (now (text .entry)) r ⌝ }
 {
     check(text)
+}
+
+// ---- tidy
+
+// One table in written form, in the lent buffer: code, line, length. The same lines in another order are as long as the text, so the
+// length is known before a byte is written.
+pub fn tidy(text: &[u8], buffer: &mut [u8]) -> Tidied
+    ensures { λ r. ⌜ Tidies (now (text .entry)) (now (buffer .entry)) r (now (buffer .exit)) ⌝ }
+{
+    let mut lines = [0u16; NUMBERS];
+    let mut facts = [0u32; FACTS];
+    let read = read_table(text, &mut lines, &mut facts);
+    let code = read.code;
+    if code != ACCEPTED {
+        return Tidied {
+            code,
+            line: read.line,
+            length: 0,
+        };
+    }
+    let length = text.len();
+    if buffer.len() < length {
+        return Tidied {
+            code: TABLE_TOO_SHORT,
+            line: 0,
+            length,
+        };
+    }
+    let texts = [text];
+    write_table(&texts[..], &lines, &facts, buffer, read.count);
+    Tidied {
+        code,
+        line: 0,
+        length,
+    }
+}
+
+#[no_mangle]
+pub extern "C" fn brooksaddle_tidy(text: &[u8], buffer: &mut [u8]) -> Tidied
+    ensures { λ r. ⌜ Tidies (now (text .entry)) (now (buffer .entry)) r (now (buffer .exit)) ⌝ }
+{
+    tidy(text, buffer)
 }
 
 // ---- content
