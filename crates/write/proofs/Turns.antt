@@ -48,10 +48,10 @@ module _ (texts : List (List ℕ)) (ls fs : List ℕ) (r n : ℕ) where
 
   -- ---- what a call asks of the next
 
-  module _ (at left room : ℕ) where
+  module _ (at left : ℕ) where
     -- a list that does not end here: its first record can be written
-    pub list-first : ListReady texts ls fs r n at left room → (n ≡ END → ⊥) → RecordReady texts ls fs r n at left room
-    list-first w z = go (w .tree) (w .laid) (w .few) (w .fits)
+    pub list-first : (room : ℕ) → ListReady texts ls fs r n at left room → (n ≡ END → ⊥) → RecordReady texts ls fs r n at left room
+    list-first room w z = go (w .tree) (w .laid) (w .few) (w .fits)
       where
         go : (f : Tree) → Laid texts ls fs n f → size f ≤ left → at + length (written (rows r f)) ≤ room
             → RecordReady texts ls fs r n at left room
@@ -65,18 +65,17 @@ module _ (texts : List (List ℕ)) (ls fs : List ℕ) (r n : ℕ) where
         }
 
     -- room for the record's line
-    pub record-line : RecordReady texts ls fs r n at left room → at + length (line (rowAt texts ls fs r n)) ≤ room
-    record-line w = omega (arith, w .fits, record-length (w .below))
+    pub record-line : (room : ℕ) → RecordReady texts ls fs r n at left room → at + length (line (rowAt texts ls fs r n)) ≤ room
+    record-line room w = omega (arith, w .fits, record-length (w .below))
 
-    pub record-left : RecordReady texts ls fs r n at left room → 0 < left
-    record-left w = omega (arith, w .few)
+    pub record-left : (room : ℕ) → RecordReady texts ls fs r n at left room → 0 < left
+    record-left room w = omega (arith, w .few)
 
-  module _ (at left : ℕ) {out mid : List ℕ} {at′ left′ : ℕ} where
     -- after the first record, the others
-    pub list-rest : (next : ℕ) → ListReady texts ls fs r n at left (length out) → (n ≡ END → ⊥)
+    pub list-rest : {out mid : List ℕ} {at′ left′ : ℕ} (next : ℕ) → ListReady texts ls fs r n at left (length out) → (n ≡ END → ⊥)
         → RecordWritten texts ls fs r n out mid at left at′ left′ → next ≡ field ls fs n FOLLOWER
         → ListReady texts ls fs r next at′ left′ (length mid)
-    list-rest next w z d q = go (w .tree) (w .laid) (w .few) (w .fits)
+    list-rest {out} {mid} {at′} {left′} next w z d q = go (w .tree) (w .laid) (w .few) (w .fits)
       where
         go : (f : Tree) → Laid texts ls fs n f → size f ≤ left → at + length (written (rows r f)) ≤ length out
             → ListReady texts ls fs r next at′ left′ (length mid)
@@ -89,11 +88,6 @@ module _ (texts : List (List ℕ)) (ls fs : List ℕ) (r n : ℕ) where
               few = omega (arith, x .rest);
               fits = omega (arith, bytes-length m c below after (e .1) (e .3), x .put .place, x .put .long);
             }
-
-    -- the count of records still unwritten falls
-    pub list-falls : ListReady texts ls fs r n at left (length out) → (n ≡ END → ⊥)
-        → RecordWritten texts ls fs r n out mid at left at′ left′ → left′ < left
-    list-falls w z d = let v = list-first at left (length out) w z in omega (arith, d .all (v .below) (v .laid) .rest)
 
   -- after the record's line, its list
   pub record-rest : (at left : ℕ) {out mid : List ℕ} {at′ : ℕ} (first : ℕ) → RecordReady texts ls fs r n at left (length out)
@@ -141,5 +135,45 @@ module _ (texts : List (List ℕ)) (ls fs : List ℕ) (r n : ℕ) where
           let y = v .all below (subst (λ (k : ℕ). Laid texts ls fs k below) (sym q) d) in
           record { put = put-then p (y .put); rest = omega (arith, y .rest) }
 
-pub ruleset turns =
-    (list-first, record-line, record-left, list-rest, list-falls, record-rest, list-none, list-more, record-more, needs)
+-- ---- a list, as the loop goes through it
+
+module _ (texts : List (List ℕ)) (ls fs : List ℕ) (r n : ℕ) (out : List ℕ) (at left : ℕ) where
+  -- the list from `next` on is still to be written: whatever writes it from here on writes the whole from the start on
+  pub record Reached (next : ℕ) (out₁ : List ℕ) (at₁ left₁ : ℕ) : Type 0 where
+    pub ready : ListReady texts ls fs r next at₁ left₁ (length out₁)
+    pub few : left₁ ≤ left
+    pub long : length out₁ ≡ length out
+    pub whole : (out′ : List ℕ) (at′ left′ : ℕ) → ListWritten texts ls fs r next out₁ out′ at₁ left₁ at′ left′
+        → ListWritten texts ls fs r n out out′ at left at′ left′
+
+  pub reached-start : ListReady texts ls fs r n at left (length out) → Reached n out at left
+  reached-start w = record { ready = w; few = omega arith; long = refl; whole = λ out′ at′ left′ v. v }
+
+  module _ (next : ℕ) {out₁ : List ℕ} {at₁ left₁ : ℕ} (w : Reached next out₁ at₁ left₁) where
+    pub reached-record : (next ≡ END → ⊥) → RecordReady texts ls fs r next at₁ left₁ (length out₁)
+    reached-record z = list-first texts ls fs r next at₁ left₁ (length out₁) (w .ready) z
+
+    -- the count of records still unwritten falls
+    pub reached-falls : {out₂ : List ℕ} {at₂ left₂ : ℕ} → (next ≡ END → ⊥)
+        → RecordWritten texts ls fs r next out₁ out₂ at₁ left₁ at₂ left₂ → left₂ < left₁
+    reached-falls z d = let v = reached-record z in omega (arith, d .all (v .below) (v .laid) .rest)
+
+    pub reached-on : {out₂ : List ℕ} {at₂ left₂ : ℕ} (onward : ℕ) → (next ≡ END → ⊥)
+        → RecordWritten texts ls fs r next out₁ out₂ at₁ left₁ at₂ left₂ → onward ≡ field ls fs next FOLLOWER
+        → Reached onward out₂ at₂ left₂
+    reached-on {out₂} {at₂} {left₂} onward z d q =
+        let v = reached-record z in
+        let x = d .all (v .below) (v .laid) in
+        record {
+          ready = list-rest texts ls fs r next at₁ left₁ onward (w .ready) z d q;
+          few = omega (arith, w .few, x .rest);
+          long = x .put .long ∙ w .long;
+          whole = λ out′ at′ left′ y. w .whole out′ at′ left′ (list-more texts ls fs r next onward z d q y);
+        }
+
+    pub reached-end : next ≡ END → ListWritten texts ls fs r n out out₁ at left at₁ left₁
+    reached-end e = w .whole out₁ at₁ left₁ (list-none texts ls fs r next e)
+
+pub ruleset lists = (reached-start, reached-record, reached-falls, reached-on, reached-end, needs)
+
+pub ruleset records = (record-line, record-left, record-rest, record-more, needs)

@@ -104,12 +104,13 @@ pub fn write_list<'a>(
         ⌜ ListWritten (map now (now (texts .entry))) (now (lines .entry)) (now (facts .entry)) r n
         (now (out .entry)) (now (out .exit)) (p .at) (p .left) (z .at) (z .left) ⌝ }
 {
-    if n == Record::END.number {
-        return p;
+    let mut q = p;
+    let mut next = n;
+    while next != Record::END.number {
+        q = write_record(texts, lines, facts, out, q, r, next);
+        next = field(lines, facts, next, FOLLOWER);
     }
-    let q = write_record(texts, lines, facts, out, p, r, n);
-    let next = field(lines, facts, n, FOLLOWER);
-    write_list(texts, lines, facts, out, q, r, next)
+    q
 }
 
 // A table of `count` records, from byte 0 on.

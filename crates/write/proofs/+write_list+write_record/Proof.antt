@@ -1,7 +1,8 @@
 -- The proof of `write_list` and `write_record`, which call each other: the count of records still unwritten falls with each record, and
 -- each turn is a law of Turns. Assumes nothing.
-use borrow.Author.Needs.{needs}
-use Rattle.write.proofs.Turns.{turns}
+use mathlib.Core.List.{map}
+use denote.Ref.{now}
+use Rattle.write.proofs.Turns.{Reached, lists, records}
 use Prim.Native.Nat.{ℕ, _+_, _<_}
 use borrow.Fn.Kinds.{In}
 use borrow.Fn.PlainCycle.{Measures, is, falls, and}
@@ -42,16 +43,21 @@ write-record-below t =
     (falls 5 write-record-kinds.ps _<_ μ-write-record t)
     write-record.Pre
 
--- src/lib.rt:108:9
-write-list-returns : (t : ℕ) → write-list-lts.Need-returns (
+abbrev write-list-Inv-loop : write-list-lts.InvT-loop
+write-list-Inv-loop texts lines facts out₀ r n q₀ next₀ out q next =
+    Reached (map now texts) lines facts r n out₀ (q₀ .at) (q₀ .left) next out (q .at) (q .left)
+
+abbrev write-list-μ-loop : write-list-lts.MeasureT-loop
+write-list-μ-loop texts lines facts out₀ r n q₀ next₀ out q next = q .left
+
+-- src/lib.rt:109:5
+write-list-loop-holds : (t : ℕ) → write-list-lts.Need-loop-holds (
   write-record-below t,
   write-record.Post,
   field-reads.Asked,
   field-reads.Learnt,
-  write-list-below t,
-  write-list.Post,
-) (write-list-at t) write-list.Post
-write-list-returns t c = search turns
+) (write-list-at t) write-list.Post write-list-Inv-loop write-list-μ-loop
+write-list-loop-holds t c = search lists
 
 -- src/lib.rt:110:9
 write-list-write-record-requires : (t : ℕ) → write-list-lts.Need-write-record-requires (
@@ -59,10 +65,8 @@ write-list-write-record-requires : (t : ℕ) → write-list-lts.Need-write-recor
   write-record.Post,
   field-reads.Asked,
   field-reads.Learnt,
-  write-list-below t,
-  write-list.Post,
-) (write-list-at t) write-list.Post
-write-list-write-record-requires t c κs = search turns
+) (write-list-at t) write-list.Post write-list-Inv-loop write-list-μ-loop
+write-list-write-record-requires t c κs = search lists
 
 -- src/lib.rt:111:9
 write-list-field-requires : (t : ℕ) → write-list-lts.Need-field-requires (
@@ -70,24 +74,26 @@ write-list-field-requires : (t : ℕ) → write-list-lts.Need-field-requires (
   write-record.Post,
   field-reads.Asked,
   field-reads.Learnt,
-  write-list-below t,
-  write-list.Post,
-) (write-list-at t) write-list.Post
-write-list-field-requires t c κs = search turns
+) (write-list-at t) write-list.Post write-list-Inv-loop write-list-μ-loop
+write-list-field-requires t c κs = search lists
 
--- src/lib.rt:112:5
-write-list-write-list-requires : (t : ℕ) → write-list-lts.Need-write-list-requires (
+-- src/lib.rt:109:5
+write-list-loop-less : (t : ℕ) → write-list-lts.Need-loop-less (
   write-record-below t,
   write-record.Post,
   field-reads.Asked,
   field-reads.Learnt,
-  write-list-below t,
-  write-list.Post,
-) (write-list-at t) write-list.Post
-write-list-write-list-requires t c κs =
-    let s = c .before .before .before .before .before .before .before .before .before in
-    let falls : c .before .before .before .before .write-record .result .left < s .args .p .left = search turns in
-    (search needs, search turns)
+) (write-list-at t) write-list.Post write-list-Inv-loop write-list-μ-loop
+write-list-loop-less t c = search lists
+
+-- src/lib.rt:109:5
+write-list-loop-again : (t : ℕ) → write-list-lts.Need-loop-again (
+  write-record-below t,
+  write-record.Post,
+  field-reads.Asked,
+  field-reads.Learnt,
+) (write-list-at t) write-list.Post write-list-Inv-loop write-list-μ-loop
+write-list-loop-again t c = search lists
 
 -- src/lib.rt:93:1
 write-list-same-length : (t : ℕ) → write-list-lts.Need-same-length (
@@ -95,21 +101,17 @@ write-list-same-length : (t : ℕ) → write-list-lts.Need-same-length (
   write-record.Post,
   field-reads.Asked,
   field-reads.Learnt,
-  write-list-below t,
-  write-list.Post,
-) (write-list-at t) write-list.Post
-write-list-same-length t c = search turns
+) (write-list-at t) write-list.Post write-list-Inv-loop write-list-μ-loop
+write-list-same-length t c = search lists
 
 -- src/lib.rt:93:1
-write-list-returns-2 : (t : ℕ) → write-list-lts.Need-returns-2 (
+write-list-returns : (t : ℕ) → write-list-lts.Need-returns (
   write-record-below t,
   write-record.Post,
   field-reads.Asked,
   field-reads.Learnt,
-  write-list-below t,
-  write-list.Post,
-) (write-list-at t) write-list.Post
-write-list-returns-2 t c = search turns
+) (write-list-at t) write-list.Post write-list-Inv-loop write-list-μ-loop
+write-list-returns t c = search lists
 
 -- src/lib.rt:86:9
 write-record-write-row-requires : (t : ℕ) → write-record-lts.Need-write-row-requires (
@@ -120,7 +122,7 @@ write-record-write-row-requires : (t : ℕ) → write-record-lts.Need-write-row-
   write-list-below t,
   write-list.Post,
 ) (write-record-at t) write-record.Post
-write-record-write-row-requires t c κs = search turns
+write-record-write-row-requires t c κs = search records
 
 -- src/lib.rt:87:16
 write-record-sub-left : (t : ℕ) → write-record-lts.Need-sub-left (
@@ -131,7 +133,7 @@ write-record-sub-left : (t : ℕ) → write-record-lts.Need-sub-left (
   write-list-below t,
   write-list.Post,
 ) (write-record-at t) write-record.Post
-write-record-sub-left t c = search turns
+write-record-sub-left t c = search records
 
 -- src/lib.rt:88:9
 write-record-field-requires : (t : ℕ) → write-record-lts.Need-field-requires (
@@ -142,7 +144,7 @@ write-record-field-requires : (t : ℕ) → write-record-lts.Need-field-requires
   write-list-below t,
   write-list.Post,
 ) (write-record-at t) write-record.Post
-write-record-field-requires t c κs = search turns
+write-record-field-requires t c κs = search records
 
 -- src/lib.rt:89:5
 write-record-write-list-requires : (t : ℕ) → write-record-lts.Need-write-list-requires (
@@ -153,7 +155,7 @@ write-record-write-list-requires : (t : ℕ) → write-record-lts.Need-write-lis
   write-list-below t,
   write-list.Post,
 ) (write-record-at t) write-record.Post
-write-record-write-list-requires t c κs = search turns
+write-record-write-list-requires t c κs = search records
 
 -- src/lib.rt:72:1
 write-record-same-length : (t : ℕ) → write-record-lts.Need-same-length (
@@ -164,7 +166,7 @@ write-record-same-length : (t : ℕ) → write-record-lts.Need-same-length (
   write-list-below t,
   write-list.Post,
 ) (write-record-at t) write-record.Post
-write-record-same-length t c = search turns
+write-record-same-length t c = search records
 
 -- src/lib.rt:72:1
 write-record-returns : (t : ℕ) → write-record-lts.Need-returns (
@@ -175,7 +177,7 @@ write-record-returns : (t : ℕ) → write-record-lts.Need-returns (
   write-list-below t,
   write-list.Post,
 ) (write-record-at t) write-record.Post
-write-record-returns t c = search turns
+write-record-returns t c = search records
 
 pub +write-list+write-record-spec : {M : Type 1} → statement M
 +write-list+write-record-spec = close μ-write-list μ-write-record (λ t. write-list-lts.spec (
@@ -183,17 +185,18 @@ pub +write-list+write-record-spec : {M : Type 1} → statement M
   write-record.Post,
   field-reads.Asked,
   field-reads.Learnt,
-  write-list-below t,
-  write-list.Post,
 )
     (write-list-at t)
     write-list.Post
-    (write-list-returns t)
+    write-list-Inv-loop
+    write-list-μ-loop
+    (write-list-loop-holds t)
     (write-list-write-record-requires t)
     (write-list-field-requires t)
-    (write-list-write-list-requires t)
+    (write-list-loop-less t)
+    (write-list-loop-again t)
     (write-list-same-length t)
-    (write-list-returns-2 t))
+    (write-list-returns t))
     λ t. write-record-lts.spec (
       write-row-reads.Asked,
       write-row-reads.Learnt,
