@@ -1,4 +1,4 @@
-//! Times check and content of the proved library beside plain Rust.
+//! Times the calls of the proved library beside plain Rust.
 //!
 //! `cargo run --release` prints the times; `cargo run --release -- --stack` the
 //! stack one call uses.
@@ -7,6 +7,7 @@
 
 mod stack;
 mod tables;
+mod tidying;
 mod timing;
 mod twin;
 
@@ -20,6 +21,8 @@ fn main() -> ExitCode {
     match arguments.first().map(String::as_str) {
         None => {
             report_check();
+            println!();
+            tidying::report();
             println!();
             report_content();
             ExitCode::SUCCESS
@@ -124,7 +127,8 @@ fn report_content_of(shape: &str, count: usize, table: &Table) {
     ]);
     let [proved_last, second_last, proved_absent, second_absent] = times.map(|time| time / 1e3);
     println!(
-        "{shape:12}{count:6}{:7}{proved_last:14.2}{second_last:14.2}{proved_absent:15.2}{second_absent:15.2}",
+        "{shape:12}{count:6}{:7}{proved_last:14.2}{second_last:14.2}\
+         {proved_absent:15.2}{second_absent:15.2}",
         text.len(),
     );
 }

@@ -27,10 +27,14 @@ const NOTHING: Tried = Tried {
     call: |_| (),
 };
 
-const CALLS: [Tried; 5] = [
+const CALLS: [Tried; 7] = [
     Tried {
         name: "proved check",
         call: |table| ignore(bridge::check(&table.text)),
+    },
+    Tried {
+        name: "proved tidy",
+        call: |table| ignore(bridge::tidy(&table.text, &mut vec![0; table.text.len()])),
     },
     Tried {
         name: "proved content",
@@ -47,6 +51,10 @@ const CALLS: [Tried; 5] = [
     Tried {
         name: "twin check",
         call: |table| ignore(twin::check(&table.text)),
+    },
+    Tried {
+        name: "twin tidy",
+        call: |table| ignore(twin::tidy(&table.text, &mut vec![0; table.text.len()])),
     },
 ];
 

@@ -18,6 +18,20 @@ pub struct Checked {
     pub depth: usize,
 }
 
+/// The answer of tidy.
+#[repr(C)]
+#[derive(Clone, Copy, Debug, PartialEq, Eq)]
+pub struct Tidied {
+    /// 0 when accepted, 1 to 10 for a refused table, 31 for a buffer that is
+    /// too short.
+    pub code: u32,
+    /// The line the code is given for; 0 for codes 0, 1 and 31.
+    pub line: u32,
+    /// How many bytes were written. On code 31 how many are needed, on any
+    /// other refusal 0.
+    pub length: usize,
+}
+
 /// A part of the lent text.
 #[repr(C)]
 #[derive(Clone, Copy, Debug, PartialEq, Eq)]
@@ -29,7 +43,7 @@ pub struct Part {
 }
 
 mod library {
-    use super::{Checked, Part};
+    use super::{Checked, Part, Tidied};
 
     // The members and their order are those of the library's own structs.
     extern "C" {
@@ -41,6 +55,11 @@ mod library {
         // Compiled for another machine it still wants that pointer there.
         #[cfg(not(target_arch = "x86_64"))]
         fn brooksaddle_check(answer: *mut Checked, text: *const u8, length: usize) -> *mut Checked;
+
+        // An answer of two words is handed back in two registers, on x86-64 as
+        // on Arm. In that of tidy, code and line are the halves of the first.
+        fn brooksaddle_tidy(text: *const u8, length: usize, buffer: *mut u8, room: usize)
+            -> Tidied;
 
         fn brooksaddle_content(text: *const u8, length: usize, number: u32) -> Part;
     }
@@ -65,9 +84,17 @@ mod library {
         }
     }
 
+    pub fn tidy(text: &[u8], buffer: &mut [u8]) -> Tidied {
+        // SAFETY: as in `check` for the text. The buffer's pointer and length
+        // are those of a live slice lent to this call alone, so all its bytes
+        // may be written and none is one of the text's. The library writes
+        // nowhere else, and keeps nothing of either after the call.
+        unsafe { brooksaddle_tidy(text.as_ptr(), text.len(), buffer.as_mut_ptr(), buffer.len()) }
+    }
+
     pub fn content(text: &[u8], number: u32) -> Part {
-        // SAFETY: as in `check`. The answer is two numbers, which every machine
-        // hands back in registers, and holds no pointer.
+        // SAFETY: as in `check`. The answer is two numbers and holds no
+        // pointer.
         unsafe { brooksaddle_content(text.as_ptr(), text.len(), number) }
     }
 }
@@ -75,6 +102,26 @@ mod library {
 /// Checks one table.
 pub fn check(text: &[u8]) -> Checked {
     library::check(text)
+}
+
+/// Writes the table to the buffer in its written form: each record, then its
+/// children in order, each with all below it.
+///
+/// Accepted, the form is the buffer's first `length` bytes and the bytes past it
+/// stay. Refused, all of the buffer stays.
+///
+/// ```
+/// let text = b"1\t0\troute\n2\t0\tnote\n3\t1\thold\n";
+/// let mut buffer = [b'.'; 30];
+/// let tidied = bridge::tidy(text, &mut buffer);
+/// assert_eq!((tidied.code, tidied.line, tidied.length), (0, 0, 28));
+/// assert_eq!(&buffer, b"1\t0\troute\n3\t1\thold\n2\t0\tnote\n..");
+///
+/// let tidied = bridge::tidy(text, &mut buffer[..27]);
+/// assert_eq!((tidied.code, tidied.line, tidied.length), (31, 0, 28));
+/// ```
+pub fn tidy(text: &[u8], buffer: &mut [u8]) -> Tidied {
+    library::tidy(text, buffer)
 }
 
 /// Where in the text the number's content stands; the empty part at the start
@@ -114,6 +161,27 @@ mod tests {
         assert_eq!(check(b"1\t0\tx\n2\t7\tx\n"), refused);
     }
 
+    fn tidied(code: u32, line: u32, length: usize) -> Tidied {
+        Tidied { code, line, length }
+    }
+
+    #[test]
+    fn the_written_form_is_in_the_buffer() {
+        let text = b"1\t0\ta\n2\t0\tb\n3\t1\tc\n";
+        let mut buffer = [b'.'; 20];
+        assert_eq!(tidy(text, &mut buffer), tidied(0, 0, 18));
+        assert_eq!(&buffer, b"1\t0\ta\n3\t1\tc\n2\t0\tb\n..");
+    }
+
+    #[test]
+    fn a_refusal_leaves_the_buffer() {
+        let mut buffer = [b'.'; 37];
+        assert_eq!(tidy(TABLE, &mut buffer), tidied(31, 0, TABLE.len()));
+        let unknown_parent = b"1\t0\tx\n2\t7\tx\n";
+        assert_eq!(tidy(unknown_parent, &mut buffer), tidied(10, 2, 0));
+        assert_eq!(buffer, [b'.'; 37]);
+    }
+
     #[test]
     fn contents_are_cut_from_the_text() {
         let place = content_place(TABLE, 2);
@@ -135,5 +203,7 @@ mod tests {
         assert_eq!(check(b""), empty);
         assert_eq!(check(&Vec::new()), empty);
         assert_eq!(content(b"", 1), b"");
+        assert_eq!(tidy(b"", &mut []), tidied(0, 0, 0));
+        assert_eq!(tidy(&Vec::new(), &mut Vec::new()), tidied(0, 0, 0));
     }
 }

@@ -1,6 +1,7 @@
 //! A text to run both programs over, with the answer where the maker of the
 //! text knows it.
 
+/// The answer of check.
 #[derive(Clone, Copy, Debug, PartialEq, Eq)]
 pub struct Answer {
     pub code: u32,
@@ -12,7 +13,10 @@ pub struct Answer {
 #[derive(Clone, Debug)]
 pub struct Case {
     pub text: Vec<u8>,
+    /// Of check.
     pub expected: Option<Answer>,
+    /// The written form of the table.
+    pub written: Option<Vec<u8>>,
 }
 
 impl Case {
@@ -25,6 +29,15 @@ impl Case {
                 count,
                 depth,
             }),
+            written: None,
+        }
+    }
+
+    /// An accepted case whose maker knows the written form as well.
+    pub fn written_as(self, written: Vec<u8>) -> Case {
+        Case {
+            written: Some(written),
+            ..self
         }
     }
 
@@ -37,6 +50,7 @@ impl Case {
                 count: 0,
                 depth: 0,
             }),
+            written: None,
         }
     }
 
@@ -44,6 +58,7 @@ impl Case {
         Case {
             text: text.into(),
             expected: None,
+            written: None,
         }
     }
 }

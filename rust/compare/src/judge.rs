@@ -1,7 +1,9 @@
 //! Runs both programs over a text and says how their answers differ.
 
 use crate::case::{Answer, Case};
+use crate::met::{Codes, Given};
 use crate::random::Random;
+use crate::tidying::{judge_tidy, Rooms};
 use std::fmt::Write;
 
 /// A program that reads past its text would meet these.
@@ -10,23 +12,33 @@ const AFTER: &[u8] = b"\n3\t0\tq\n0\t0\tq\n";
 
 const SHOWN_BYTES: usize = 400;
 
-/// The code both give, or what is different.
-pub fn judge(case: &Case, random: &mut Random) -> Result<u32, String> {
+/// The codes both give, or what is different.
+pub fn judge(case: &Case, rooms: Rooms, random: &mut Random) -> Result<Given, String> {
     let start = random.between(0, BEFORE.len());
     let held = [&BEFORE[..start], &case.text, AFTER].concat();
     let text = &held[start..start + case.text.len()];
-    let code = judge_check(text, case.expected)?;
+    let check = judge_check(text, case.expected)?;
     let numbers = numbers_to_ask(text, random);
     judge_content_places(text, &numbers)?;
     judge_content(text, numbers[0])?;
-    Ok(code)
+    let tidy = judge_tidy(text, case, rooms, random)?;
+    judge_text(text, case)?;
+    Ok(Given { check, tidy })
 }
 
-fn judge_check(text: &[u8], expected: Option<Answer>) -> Result<u32, String> {
+/// The text is lent to be read alone.
+fn judge_text(text: &[u8], case: &Case) -> Result<(), String> {
+    if text == case.text {
+        return Ok(());
+    }
+    Err("the text was changed\n".to_string() + &shown(&case.text))
+}
+
+fn judge_check(text: &[u8], expected: Option<Answer>) -> Result<Codes, String> {
     let proved = proved_answer(bridge::check(text));
     let second = second_answer(second::check(text));
     if proved == second && expected.is_none_or(|expected| expected == second) {
-        return Ok(second.code);
+        return Ok(Codes::only(second.code));
     }
     let mut report = format!("check\n  proved   {proved:?}\n  second   {second:?}\n");
     if let Some(expected) = expected {
@@ -120,7 +132,7 @@ fn leading_digits(text: &[u8], start: usize) -> u32 {
         })
 }
 
-fn shown(text: &[u8]) -> String {
+pub fn shown(text: &[u8]) -> String {
     let cut = &text[..text.len().min(SHOWN_BYTES)];
     let more = if cut.len() < text.len() { " ..." } else { "" };
     format!(

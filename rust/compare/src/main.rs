@@ -2,25 +2,30 @@
 //!
 //! `cargo run --release -p compare [-- [--codes] [SEED [TEXTS]]]`
 //!
-//! A part of the comparison is a test, and so is that each code was met often
-//! enough. `--codes` shows how often each part met each code.
+//! A part of the comparison is a test, and so is, for each call, that it gave
+//! each of its codes often enough. `--codes` shows how often in each part.
 
 #![forbid(unsafe_code)]
 
 mod case;
 mod judge;
+mod lent;
 mod lines;
+mod met;
 mod parts;
 mod random;
 mod run;
 mod spoil;
 mod tables;
+mod tidying;
+mod trees;
 
-use run::{codes_met_too_seldom, run_all, sum_of_codes, Outcome, CODES, LEAST_OF_EACH_CODE};
+use met::{Met, LEAST_OF_EACH_CODE, OF_CHECK, OF_TIDY};
+use run::{met_by_all, run_all, Outcome};
 use std::process::ExitCode;
 
 const SEED: u64 = 2004;
-const TEXTS: usize = 100_000;
+const TEXTS: usize = 150_000;
 
 struct Wanted {
     seed: u64,
@@ -36,11 +41,12 @@ fn main() -> ExitCode {
     let outcomes = run_all(wanted.seed, wanted.texts, |outcome| {
         show(outcome, wanted.codes)
     });
-    let seldom = codes_met_too_seldom(&outcomes);
-    show_codes(&outcomes, &seldom);
-    let tests = outcomes.len() + 1;
+    let met = met_by_all(&outcomes);
+    let seldom = too_seldom(&met);
+    show_codes(&met, &seldom);
+    let tests = outcomes.len() + seldom.len();
     let failed = outcomes.iter().filter(|part| part.differences > 0).count()
-        + usize::from(!seldom.is_empty());
+        + seldom.iter().filter(|(_, codes)| !codes.is_empty()).count();
     println!("{} passed, {failed} failed", tests - failed);
     ExitCode::from(u8::from(failed > 0))
 }
@@ -80,24 +86,27 @@ fn show(outcome: &Outcome, with_codes: bool) {
         println!("{report}");
     }
     if with_codes {
-        println!("  {}", listed_codes(&outcome.codes));
+        println!("  check {}", outcome.met.check.listed(&OF_CHECK));
+        println!("  tidy  {}", outcome.met.tidy.listed(&OF_TIDY));
     }
 }
 
-fn show_codes(outcomes: &[Outcome], seldom: &[usize]) {
-    println!("codes met: {}", listed_codes(&sum_of_codes(outcomes)));
-    for code in seldom {
-        println!("code {code} was met fewer than {LEAST_OF_EACH_CODE} times");
-    }
+/// For each call the codes it gave too seldom.
+fn too_seldom(met: &Met) -> [(&'static str, Vec<u32>); 2] {
+    [
+        ("check", met.check.too_seldom(&OF_CHECK)),
+        ("tidy", met.tidy.too_seldom(&OF_TIDY)),
+    ]
 }
 
-fn listed_codes(codes: &[usize; CODES]) -> String {
-    let each: Vec<String> = codes
-        .iter()
-        .enumerate()
-        .map(|(code, times)| format!("{code}: {times}"))
-        .collect();
-    each.join(", ")
+fn show_codes(met: &Met, seldom: &[(&str, Vec<u32>)]) {
+    println!("codes of check: {}", met.check.listed(&OF_CHECK));
+    println!("codes of tidy: {}", met.tidy.listed(&OF_TIDY));
+    for (call, codes) in seldom {
+        for code in codes {
+            println!("code {code} of {call} was met fewer than {LEAST_OF_EACH_CODE} times");
+        }
+    }
 }
 
 #[cfg(test)]
@@ -109,6 +118,7 @@ mod tests {
     fn no_part_differs() {
         let outcomes = run_all(1, 40_000, |outcome| show(outcome, false));
         assert!(outcomes.iter().all(|part| part.differences == 0));
-        assert_eq!(codes_met_too_seldom(&outcomes), Vec::<usize>::new());
+        let none = [("check", vec![]), ("tidy", vec![])];
+        assert_eq!(too_seldom(&met_by_all(&outcomes)), none);
     }
 }

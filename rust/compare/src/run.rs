@@ -2,16 +2,10 @@
 
 use crate::case::Case;
 use crate::judge::judge;
+use crate::met::{Given, Met};
 use crate::parts::{Part, Source, PARTS};
 use crate::random::Random;
 use std::thread;
-
-/// Codes 0 and 1 to 10.
-pub const CODES: usize = 11;
-
-/// Of each code at least so many texts are wanted in all. The listed parts
-/// alone bring more.
-pub const LEAST_OF_EACH_CODE: usize = 200;
 
 /// However few texts are wanted, no part may pass without any.
 const FEWEST_DRAWN: usize = 1_000;
@@ -23,16 +17,16 @@ pub struct Outcome {
     pub name: &'static str,
     pub texts: usize,
     pub differences: usize,
-    pub codes: [usize; CODES],
+    pub met: Met,
     /// The first few differences.
     pub reports: Vec<String>,
 }
 
 impl Outcome {
-    fn count(&mut self, index: usize, judged: Result<u32, String>) {
+    fn count(&mut self, index: usize, judged: Result<Given, String>) {
         self.texts += 1;
         match judged {
-            Ok(code) => self.codes[code as usize] += 1,
+            Ok(given) => self.met.count(given),
             Err(report) => {
                 self.differences += 1;
                 if self.reports.len() < REPORTS_SHOWN {
@@ -45,9 +39,7 @@ impl Outcome {
     fn add(&mut self, other: Outcome) {
         self.texts += other.texts;
         self.differences += other.differences;
-        for (sum, more) in self.codes.iter_mut().zip(other.codes) {
-            *sum += more;
-        }
+        self.met.add(other.met);
         self.reports.extend(other.reports);
         self.reports.truncate(REPORTS_SHOWN);
     }
@@ -64,13 +56,13 @@ pub fn run_all(seed: u64, texts: usize, show: impl Fn(&Outcome)) -> Vec<Outcome>
         let outcome = match part.source {
             Source::Listed(_) => {
                 let cases = &listed[place];
-                run_part(part.name, place, seed, cases.len(), &|index, _| {
+                run_part(part, place, seed, cases.len(), &|index, _| {
                     cases[index].clone()
                 })
             }
             Source::Drawn { share, draw } => {
                 let count = drawn_texts * share / 100;
-                run_part(part.name, place, seed, count, &|_, random| draw(random))
+                run_part(part, place, seed, count, &|_, random| draw(random))
             }
         };
         show(&outcome);
@@ -89,7 +81,7 @@ fn listed_cases(part: &Part) -> Vec<Case> {
 /// Each text has a random generator of its own, so the threads' number changes
 /// nothing.
 fn run_part(
-    name: &'static str,
+    part: &Part,
     place: usize,
     seed: u64,
     count: usize,
@@ -101,12 +93,12 @@ fn run_part(
         for index in (first..count).step_by(threads) {
             let mut random = Random::for_text(seed, place, index);
             let case = make(index, &mut random);
-            outcome.count(index, judge(&case, &mut random));
+            outcome.count(index, judge(&case, part.rooms, &mut random));
         }
         outcome
     };
     let mut whole = Outcome {
-        name,
+        name: part.name,
         ..Outcome::default()
     };
     thread::scope(|scope| {
@@ -120,18 +112,11 @@ fn run_part(
     whole
 }
 
-pub fn sum_of_codes(outcomes: &[Outcome]) -> [usize; CODES] {
-    let mut sum = Outcome::default();
+/// What all the parts met together.
+pub fn met_by_all(outcomes: &[Outcome]) -> Met {
+    let mut sum = Met::default();
     for outcome in outcomes {
-        sum.add(outcome.clone());
+        sum.add(outcome.met);
     }
-    sum.codes
-}
-
-/// The codes met too seldom for the comparison to mean much.
-pub fn codes_met_too_seldom(outcomes: &[Outcome]) -> Vec<usize> {
-    let codes = sum_of_codes(outcomes);
-    (0..CODES)
-        .filter(|&code| codes[code] < LEAST_OF_EACH_CODE)
-        .collect()
+    sum
 }

@@ -4,9 +4,9 @@ use crate::lines::{text_of, Line};
 use crate::random::Random;
 use std::collections::HashSet;
 
-const MOST_BYTES: usize = 32_768;
-const MOST_LINES: usize = 512;
-const LONGEST_CONTENT: usize = 120;
+pub const MOST_BYTES: usize = 32_768;
+pub const MOST_LINES: usize = 512;
+pub const LONGEST_CONTENT: usize = 120;
 
 /// Digits of number and parent, two tabs and LF at their most.
 const MOST_BESIDE_CONTENT: usize = 13;
@@ -103,7 +103,7 @@ pub fn draw_table(count: usize, random: &mut Random) -> GoodTable {
 }
 
 /// Different numbers in random order, from a narrow or the whole range.
-fn draw_numbers(count: usize, random: &mut Random) -> Vec<u32> {
+pub fn draw_numbers(count: usize, random: &mut Random) -> Vec<u32> {
     let ranges = [
         (1, count),
         (1, 3 * count),
@@ -123,7 +123,7 @@ fn draw_numbers(count: usize, random: &mut Random) -> Vec<u32> {
 }
 
 /// Contents of 1 to 120 bytes that fit together in a table.
-fn draw_contents(count: usize, random: &mut Random) -> Vec<Vec<u8>> {
+pub fn draw_contents(count: usize, random: &mut Random) -> Vec<Vec<u8>> {
     let longest = random.pick(&[1, 8, 30, 51, LONGEST_CONTENT, LONGEST_CONTENT]);
     let mut room = MOST_BYTES - count * (MOST_BESIDE_CONTENT + 1);
     let mut lengths = Vec::with_capacity(count);

@@ -7,9 +7,11 @@ mod limits;
 mod near;
 mod pairs;
 mod raw;
+mod trees;
 
 use crate::case::Case;
 use crate::random::Random;
+use crate::tidying::Rooms;
 
 pub enum Source {
     /// Always the same texts.
@@ -24,23 +26,31 @@ pub enum Source {
 pub struct Part {
     pub name: &'static str,
     pub source: Source,
+    pub rooms: Rooms,
 }
 
-pub const PARTS: [Part; 8] = [
+/// A part's place goes into its random generators, so new ones come last.
+pub const PARTS: [Part; 13] = [
     listed("limits", limits::cases),
     listed("alone", alone::cases),
     listed("pairs-one-line", pairs::on_one_line),
     listed("pairs-two-lines", pairs::on_two_lines),
-    drawn("raw", 15, raw::draw),
-    drawn("near", 25, near::draw),
-    drawn("good", 20, good::draw),
-    drawn("damaged", 40, damaged::draw),
+    drawn("raw", 9, raw::draw),
+    drawn("near", 15, near::draw),
+    drawn("good", 12, good::draw),
+    drawn("damaged", 25, damaged::draw),
+    listed("tidy-shapes", trees::shapes).in_many_rooms(),
+    drawn("tidy-trees", 19, trees::draw).in_many_rooms(),
+    drawn("tidy-turns", 10, trees::draw_turns).in_many_rooms(),
+    drawn("tidy-full", 2, trees::draw_full).in_many_rooms(),
+    drawn("tidy-damaged", 8, damaged::draw).in_many_rooms(),
 ];
 
 const fn listed(name: &'static str, cases: fn() -> Vec<Case>) -> Part {
     Part {
         name,
         source: Source::Listed(cases),
+        rooms: Rooms::Few,
     }
 }
 
@@ -48,5 +58,15 @@ const fn drawn(name: &'static str, share: usize, draw: fn(&mut Random) -> Case) 
     Part {
         name,
         source: Source::Drawn { share, draw },
+        rooms: Rooms::Few,
+    }
+}
+
+impl Part {
+    const fn in_many_rooms(self) -> Part {
+        Part {
+            rooms: Rooms::Many,
+            ..self
+        }
     }
 }
