@@ -1,4 +1,5 @@
--- What the writing calls rest on: bytes put one after another, digits put last one first, bytes copied, the parts of a line.
+-- What the writing calls rest on: bytes put one after another, digits put last one first, bytes copied one or eight at a time.
 pub mod Puts
 pub mod Digits
 pub mod Copies
+pub mod Eights

@@ -4,7 +4,8 @@ use text::LF;
 use text::TAB;
 ghost use mathlib.Core.Path.{_≡_};
 ghost use Prim.Native.Nat.{_+_, _≤_};
-ghost use lib.ListN.{length};
+ghost use lib.ListN.{length, take, drop};
+ghost use lib.Seq.{sets};
 ghost use Rattle.rules.specs.Written.{width as widthOf, digits, line};
 ghost use Rattle.bytes.specs.Put.{Put, numberField};
 
@@ -61,8 +62,46 @@ pub fn write_field(n: u32, out: &mut [u8], at: usize) -> usize
     end + 1
 }
 
-// All bytes of a part.
-pub fn copy(part: &[u8], out: &mut [u8], at: usize) -> usize
+// Eight bytes of a part. All are read before the first is written, so that the compiler moves them together.
+fn copy_eight(part: &[u8], i: usize, out: &mut [u8], to: usize)
+    requires { ⌜ (i + 8 ≤ length (now part)) × (to + 8 ≤ length (now out)) ⌝ }
+    ensures { λ r. ⌜ now (out .exit) ≡ sets (now (out .entry)) to (take 8 (drop i (now (part .entry)))) ⌝ }
+{
+    let a = part[i];
+    let b = part[i + 1];
+    let c = part[i + 2];
+    let d = part[i + 3];
+    let e = part[i + 4];
+    let f = part[i + 5];
+    let g = part[i + 6];
+    let h = part[i + 7];
+    out[to] = a;
+    out[to + 1] = b;
+    out[to + 2] = c;
+    out[to + 3] = d;
+    out[to + 4] = e;
+    out[to + 5] = f;
+    out[to + 6] = g;
+    out[to + 7] = h;
+}
+
+// All bytes of a part that has eight or more: eight at a time, and the last eight, some of them once more.
+fn copy_long(part: &[u8], out: &mut [u8], at: usize) -> usize
+    requires { ⌜ (8 ≤ length (now part)) × (at + length (now part) ≤ length (now out)) ⌝ }
+    ensures { λ r. ⌜ Put (now (out .entry)) (now (out .exit)) at r (now (part .entry)) ⌝ }
+{
+    let last = part.len() - 8;
+    let mut i = 0;
+    while i < last {
+        copy_eight(part, i, out, at + i);
+        i += 8;
+    }
+    copy_eight(part, last, out, at + last);
+    at + part.len()
+}
+
+// All bytes of a part, one at a time.
+fn copy_short(part: &[u8], out: &mut [u8], at: usize) -> usize
     requires { ⌜ at + length (now part) ≤ length (now out) ⌝ }
     ensures { λ r. ⌜ Put (now (out .entry)) (now (out .exit)) at r (now (part .entry)) ⌝ }
 {
@@ -75,6 +114,17 @@ pub fn copy(part: &[u8], out: &mut [u8], at: usize) -> usize
         left -= 1;
     }
     at + i
+}
+
+// All bytes of a part.
+pub fn copy(part: &[u8], out: &mut [u8], at: usize) -> usize
+    requires { ⌜ at + length (now part) ≤ length (now out) ⌝ }
+    ensures { λ r. ⌜ Put (now (out .entry)) (now (out .exit)) at r (now (part .entry)) ⌝ }
+{
+    if part.len() < 8 {
+        return copy_short(part, out, at);
+    }
+    copy_long(part, out, at)
 }
 
 // The line of a row: number, tab, parent, tab, content, LF.

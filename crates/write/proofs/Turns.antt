@@ -135,6 +135,12 @@ module _ (texts : List (List ℕ)) (ls fs : List ℕ) (r n : ℕ) where
           let y = v .all below (subst (λ (k : ℕ). Laid texts ls fs k below) (sym q) d) in
           record { put = put-then p (y .put); rest = omega (arith, y .rest) }
 
+-- a record without a child
+pub record-leaf : (texts : List (List ℕ)) (ls fs : List ℕ) (r n : ℕ) {out mid : List ℕ} {at left atm : ℕ} (first : ℕ) → 0 < left
+    → Put out mid at atm (line (rowAt texts ls fs r n)) → first ≡ field ls fs n FIRST → first ≡ END
+    → RecordWritten texts ls fs r n out mid at left atm (left - 1)
+record-leaf texts ls fs r n first h p q e = record-more texts ls fs r n first h p q (list-none texts ls fs n first e)
+
 -- ---- a list, as the loop goes through it
 
 module _ (texts : List (List ℕ)) (ls fs : List ℕ) (r n : ℕ) (out : List ℕ) (at left : ℕ) where
@@ -176,4 +182,4 @@ module _ (texts : List (List ℕ)) (ls fs : List ℕ) (r n : ℕ) (out : List �
 
 pub ruleset lists = (reached-start, reached-record, reached-falls, reached-on, reached-end, needs)
 
-pub ruleset records = (record-line, record-left, record-rest, record-more, needs)
+pub ruleset records = (record-line, record-left, record-rest, record-more, record-leaf, needs)

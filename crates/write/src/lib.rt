@@ -68,7 +68,7 @@ fn write_row<'a>(
     write_line(n, r, content, out, at)
 }
 
-// A record, then its list.
+// A record, then its list. Most records have no child, and are spared the call.
 pub fn write_record<'a>(
     texts: &[&'a [u8]],
     lines: &[u16; NUMBERS],
@@ -86,7 +86,11 @@ pub fn write_record<'a>(
     let at = write_row(texts, lines, facts, out, p.at, r, n);
     let left = p.left - 1;
     let first = field(lines, facts, n, FIRST);
-    write_list(texts, lines, facts, out, Progress { at, left }, n, first)
+    let q = Progress { at, left };
+    if first == Record::END.number {
+        return q;
+    }
+    write_list(texts, lines, facts, out, q, n, first)
 }
 
 // The records of a list from `n` on, each with all below it.

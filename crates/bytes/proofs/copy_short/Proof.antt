@@ -1,9 +1,9 @@
--- The proof of `copy`: what is left of the part, put from here on, gives what is wanted from the start (Copies). Assumes nothing.
+-- The proof of `copy_short`: what is left of the part, put from here on, gives what is wanted from the start (Copies). Assumes nothing.
 use Rattle.bytes.proofs.Copies.{Copied, copies}
-use Rattle.bytes.proofs.copy.Statement.{statement}
-use Rattle.bytes.proofs.copy.Tie as tie
-use Rattle.bytes.proofs.copy.Reads as reads
-use Rattle.bytes.proofs.copy.Lts as lts
+use Rattle.bytes.proofs.copy_short.Statement.{statement}
+use Rattle.bytes.proofs.copy_short.Tie as tie
+use Rattle.bytes.proofs.copy_short.Reads as reads
+use Rattle.bytes.proofs.copy_short.Lts as lts
 
 abbrev Inv-loop : tie.InvT-loop
 Inv-loop part out₀ at left₀ i₀ out left i = Copied out₀ out at part i left
@@ -55,8 +55,8 @@ same-length c = search copies
 returns : tie.Need-returns Inv-loop μ-loop
 returns c = search copies
 
-pub copy-spec : {M : Type 1} → statement M
-copy-spec =
+pub copy-short-spec : {M : Type 1} → statement M
+copy-short-spec =
     tie.close
     (tie.spec
     Inv-loop
