@@ -113,7 +113,7 @@ module _ (texts : List (List ℕ)) (ls fs : List ℕ) where
       → TableWritten texts ls fs out out′
   table-written count first {out} {out′} {at′} {left′} w e v = record { all = go }
     where
-      done : (t : List Row) → Stored texts ls fs t → Done texts ls fs out out′ 0 count at′ left′ (tidied t) (size (treeOf t))
+      done : (t : List Row) → Stored texts ls fs t → Done out out′ 0 count at′ left′ (tidied t) (size (treeOf t))
       done t s = v .all (treeOf t) (subst (λ (k : ℕ). Laid texts ls fs k (treeOf t)) (sym e) (table-laid t s))
 
       go : (t : List Row) → Stored texts ls fs t → out′ ≡ over (tidied t) out

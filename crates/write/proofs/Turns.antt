@@ -105,7 +105,7 @@ module _ (texts : List (List ℕ)) (ls fs : List ℕ) (r n : ℕ) where
   pub list-none : {out : List ℕ} {at left : ℕ} → n ≡ END → ListWritten texts ls fs r n out out at left at left
   list-none {out} {at} {left} e = record { all = go }
     where
-      go : (f : Tree) → Laid texts ls fs n f → Done texts ls fs out out at left at left (written (rows r f)) (size f)
+      go : (f : Tree) → Laid texts ls fs n f → Done out out at left at left (written (rows r f)) (size f)
       go empty d = record { put = put-none out at; rest = omega arith }
       go (node m c below after) d = absurd (d .0 e)
 
@@ -114,7 +114,7 @@ module _ (texts : List (List ℕ)) (ls fs : List ℕ) (r n : ℕ) where
       → ListWritten texts ls fs r next mid out′ atm leftm at′ left′ → ListWritten texts ls fs r n out out′ at left at′ left′
   list-more {out} {mid} {out′} {at} {left} {atm} {leftm} {at′} {left′} next z w q v = record { all = go }
     where
-      go : (f : Tree) → Laid texts ls fs n f → Done texts ls fs out out′ at left at′ left′ (written (rows r f)) (size f)
+      go : (f : Tree) → Laid texts ls fs n f → Done out out′ at left at′ left′ (written (rows r f)) (size f)
       go empty d = absurd (z d)
       go (node m c below after) d =
           let x = w .all below (d .4) in
@@ -130,7 +130,7 @@ module _ (texts : List (List ℕ)) (ls fs : List ℕ) (r n : ℕ) where
   record-more {out} {mid} {out′} {at} {left} {atm} {at′} {left′} first h p q v = record { all = go }
     where
       go : (below : Tree) → Laid texts ls fs (field ls fs n FIRST) below
-          → Done texts ls fs out out′ at left at′ left′ (recordBytes texts ls fs r n below) (suc (size below))
+          → Done out out′ at left at′ left′ (recordBytes texts ls fs r n below) (suc (size below))
       go below d =
           let y = v .all below (subst (λ (k : ℕ). Laid texts ls fs k below) (sym q) d) in
           record { put = put-then p (y .put); rest = omega (arith, y .rest) }

@@ -18,6 +18,11 @@ abbrev pub size : Tree → ℕ
 size empty = 0
 size (node n c below after) = suc (size below + size after)
 
+-- these bytes are put there, and so many records fewer are unwritten
+pub record Done (out out′ : List ℕ) (at left at′ left′ : ℕ) (bytes : List ℕ) (count : ℕ) : Type 0 where
+  pub put : Put out out′ at at′ bytes
+  pub rest : left′ + count ≡ left
+
 module _ (texts : List (List ℕ)) (ls fs : List ℕ) where
   -- the links from n on lay down this tree: the record n, those below it, those after it
   abbrev pub Laid : ℕ → Tree → Type 0
@@ -52,11 +57,7 @@ module _ (texts : List (List ℕ)) (ls fs : List ℕ) where
     pub few : suc (size below) ≤ left
     pub fits : at + length (recordBytes r n below) ≤ room
 
-  -- ---- what is done: whatever tree the links lay down, exactly its bytes are put there, and so many records fewer are unwritten
-
-  pub record Done (out out′ : List ℕ) (at left at′ left′ : ℕ) (bytes : List ℕ) (count : ℕ) : Type 0 where
-    pub put : Put out out′ at at′ bytes
-    pub rest : left′ + count ≡ left
+  -- ---- what is done, whatever tree the links lay down
 
   pub record ListWritten (r n : ℕ) (out out′ : List ℕ) (at left at′ left′ : ℕ) : Type 0 where
     pub all : (f : Tree) → Laid n f → Done out out′ at left at′ left′ (written (rows r f)) (size f)
