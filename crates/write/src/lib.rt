@@ -69,7 +69,7 @@ fn write_row<'a>(
 }
 
 // A record, then its list. Most records have no child, and are spared the call.
-pub fn write_record<'a>(
+fn write_record<'a>(
     texts: &[&'a [u8]],
     lines: &[u16; NUMBERS],
     facts: &[u32; FACTS],
@@ -94,7 +94,7 @@ pub fn write_record<'a>(
 }
 
 // The records of a list from `n` on, each with all below it.
-pub fn write_list<'a>(
+fn write_list<'a>(
     texts: &[&'a [u8]],
     lines: &[u16; NUMBERS],
     facts: &[u32; FACTS],

@@ -5,12 +5,14 @@
 
 #![forbid(unsafe_code)]
 
+mod report;
 mod stack;
 mod tables;
 mod tidying;
 mod timing;
 mod twin;
 
+use report::report;
 use std::hint::black_box;
 use std::process::ExitCode;
 use tables::{Table, SHAPES, SIZES};
@@ -20,9 +22,9 @@ fn main() -> ExitCode {
     let arguments: Vec<String> = std::env::args().skip(1).collect();
     match arguments.first().map(String::as_str) {
         None => {
-            report_check();
+            report("check", "pass", times_of_check);
             println!();
-            tidying::report();
+            report("tidy", "copy", tidying::times);
             println!();
             report_content();
             ExitCode::SUCCESS
@@ -44,39 +46,15 @@ fn exit_code(good: bool) -> ExitCode {
     }
 }
 
-fn report_check() {
-    println!("check, microseconds (medians); /NAME is proved divided by NAME");
-    println!(
-        "{:12}{:>6}{:>7}{:>10}{:>10}{:>10}{:>10}{:>10}{:>10}{:>10}",
-        "shape", "lines", "bytes", "proved", "second", "twin", "pass", "/second", "/twin", "/pass"
-    );
-    for shape in &SHAPES {
-        for count in SIZES {
-            report_check_of(shape.name, count, &(shape.table)(count));
-        }
-    }
-}
-
-fn report_check_of(shape: &str, count: usize, table: &Table) {
+fn times_of_check(table: &Table) -> [f64; 4] {
     let text = &table.text[..];
     must_agree(text);
-    let [proved, second, twin, pass] = medians([
+    medians([
         &|| ignore(bridge::check(black_box(text))),
         &|| ignore(second::check(black_box(text))),
         &|| ignore(twin::check(black_box(text))),
         &|| ignore(plain_pass(black_box(text))),
-    ]);
-    println!(
-        "{shape:12}{count:6}{:7}{:10.2}{:10.2}{:10.2}{:10.2}{:10.2}{:10.2}{:10.1}",
-        text.len(),
-        proved / 1e3,
-        second / 1e3,
-        twin / 1e3,
-        pass / 1e3,
-        proved / second,
-        proved / twin,
-        proved / pass,
-    );
+    ])
 }
 
 /// Keeps the answer from being left out as unused.

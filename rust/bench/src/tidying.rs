@@ -1,47 +1,23 @@
 //! Times tidy beside plain Rust and a plain copy of the bytes.
 
 use crate::ignore;
-use crate::tables::{Table, SHAPES, SIZES};
+use crate::tables::Table;
 use crate::timing::medians;
 use crate::twin;
 use std::cell::RefCell;
 use std::hint::black_box;
 
-pub fn report() {
-    println!("tidy, microseconds (medians); /NAME is proved divided by NAME");
-    println!(
-        "{:12}{:>6}{:>7}{:>10}{:>10}{:>10}{:>10}{:>10}{:>10}{:>10}",
-        "shape", "lines", "bytes", "proved", "second", "twin", "copy", "/second", "/twin", "/copy"
-    );
-    for shape in &SHAPES {
-        for count in SIZES {
-            report_of(shape.name, count, &(shape.table)(count));
-        }
-    }
-}
-
-fn report_of(shape: &str, count: usize, table: &Table) {
+pub fn times(table: &Table) -> [f64; 4] {
     let text = &table.text[..];
     must_agree(text);
     // The same for all, so that none has it nearer than the others.
     let buffer = RefCell::new(vec![0; text.len()]);
-    let [proved, second, twin, copy] = medians([
+    medians([
         &|| ignore(bridge::tidy(black_box(text), &mut buffer.borrow_mut())),
         &|| ignore(second::tidy(black_box(text), text.len())),
         &|| ignore(twin::tidy(black_box(text), &mut buffer.borrow_mut())),
         &|| plain_copy(black_box(text), &mut buffer.borrow_mut()),
-    ]);
-    println!(
-        "{shape:12}{count:6}{:7}{:10.2}{:10.2}{:10.2}{:10.2}{:10.2}{:10.2}{:10.1}",
-        text.len(),
-        proved / 1e3,
-        second / 1e3,
-        twin / 1e3,
-        copy / 1e3,
-        proved / second,
-        proved / twin,
-        proved / copy,
-    );
+    ])
 }
 
 /// Times mean nothing for different answers.
