@@ -51,36 +51,43 @@ module _ (text ls fs : List ℕ) (a : Read) (w : Reads text ls fs a) where
 
   -- ---- refused
 
+  record Refused : Type 0 where
+    code : ℕ
+    line : ℕ
+    is : verdict text ≡ unreadable code line
+    code-is : a .code ≡ code
+    line-is : a .line ≡ line
+
+  refused : (a .code ≡ 0 → ⊥) → Refused
+  refused f = go (verdict text) refl
+    where
+      go : (v : Verdict) → verdict text ≡ v → Refused
+      go (readable t) q = absurd (f (ap (λ (z : Read). z .code) (tells (readable t) q)))
+      go (unreadable c l) q =
+          let e = tells (unreadable c l) q in
+          record { code = c; line = l; is = q; code-is = ap (λ (z : Read). z .code) e; line-is = ap (λ (z : Read). z .line) e }
+
   pub check-refused : (code line : ℕ) → code ≡ a .code → line ≡ a .line → (code ≡ 0 → ⊥)
       → Checks text (record { code = code; line = line; count = 0; depth = 0 })
-  check-refused code line e d f = record { answered = go (verdict text) refl }
-    where
-      go : (v : Verdict) → verdict text ≡ v → record { code = code; line = line; count = 0; depth = 0 } ≡ checked v
-      go (readable t) q = absurd (f (e ∙ ap (λ (z : Read). z .code) (tells (readable t) q)))
-      go (unreadable c l) q =
-          let z = tells (unreadable c l) q in
-          λ i. record { code = (e ∙ ap (λ (y : Read). y .code) z) i; line = (d ∙ ap (λ (y : Read). y .line) z) i; count = 0; depth = 0 }
+  check-refused code line e d f =
+      let r = refused (λ z. f (e ∙ z)) in
+      record {
+        answered =
+            (λ i. record { code = (e ∙ r .code-is) i; line = (d ∙ r .line-is) i; count = 0; depth = 0 }) ∙ ap checked (sym (r .is));
+      }
 
   pub tidy-refused : (buffer : List ℕ) (code line : ℕ) → code ≡ a .code → line ≡ a .line → (code ≡ 0 → ⊥)
       → Tidies text buffer (tidyTold code line 0) buffer
-  tidy-refused buffer code line e d f = record { answered = answer (verdict text) refl; buffered = stays (verdict text) refl }
-    where
-      answer : (v : Verdict) → verdict text ≡ v → tidyTold code line 0 ≡ tidyOf v (length buffer)
-      answer (readable t) q = absurd (f (e ∙ ap (λ (z : Read). z .code) (tells (readable t) q)))
-      answer (unreadable c l) q =
-          let z = tells (unreadable c l) q in
-          λ i. tidyTold ((e ∙ ap (λ (y : Read). y .code) z) i) ((d ∙ ap (λ (y : Read). y .line) z) i) 0
-
-      stays : (v : Verdict) → verdict text ≡ v → buffer ≡ tidyInto v buffer
-      stays (readable t) q = absurd (f (e ∙ ap (λ (z : Read). z .code) (tells (readable t) q)))
-      stays (unreadable c l) q = refl
+  tidy-refused buffer code line e d f =
+      let r = refused (λ z. f (e ∙ z)) in
+      record {
+        answered =
+            (λ i. tidyTold ((e ∙ r .code-is) i) ((d ∙ r .line-is) i) 0) ∙ ap (λ (v : Verdict). tidyOf v (length buffer)) (sym (r .is));
+        buffered = ap (λ (v : Verdict). tidyInto v buffer) (sym (r .is));
+      }
 
   pub part-refused : (n : ℕ) (p : Part) → (a .code ≡ 0 → ⊥) → p ≡ noPart → p ≡ contentAnswer text n
-  part-refused n p f e = e ∙ go (verdict text) refl
-    where
-      go : (v : Verdict) → verdict text ≡ v → noPart ≡ partOf v text n
-      go (readable t) q = absurd (f (ap (λ (z : Read). z .code) (tells (readable t) q)))
-      go (unreadable c l) q = refl
+  part-refused n p f e = e ∙ ap (λ (v : Verdict). partOf v text n) (sym (refused f .is))
 
   -- ---- accepted
 

@@ -1,17 +1,18 @@
 -- A number's digits, put into a buffer from the last to the first. n is the number, o the buffer, at the place of the first digit, to
 -- that of the digit put last, rest what of the number is not put yet. Assumes nothing.
 use mathlib.Core.Path.{_≡_, refl, sym, ap, _∙_}
+use mathlib.Core.Logic.{inr}
 use mathlib.Core.List.{List, [], _∷_}
 use Prim.Native.Nat.{ℕ, zero, suc, _+_, _-_, _/_, _%_, _<_, _≤_}
 use native.Mathlib.Omega.{arith}
 use lib.ListN.{length, set, length-set}
-use lib.Seq.{sets, set-comm}
+use lib.Seq.{sets}
 use borrow.Author.Needs.{needs}
 use borrow.Author.Tests.{lt-ltb, le-ltb}
 use Rattle.rules.specs.Written.{lastDigits, width, digits}
 use Rattle.readback.proofs.Decimals.{digits-length, lastDigits-length}
 use Rattle.bytes.specs.Put.{Put}
-use Rattle.bytes.proofs.Puts.{sets-append}
+use Rattle.bytes.proofs.Puts.{sets-append, sets-apart}
 
 -- ---- how many
 
@@ -38,12 +39,6 @@ width-6 n l =
 pub ruleset widths = (width-1, width-2, width-3, width-4, width-5, width-6, needs)
 
 -- ---- as the loop goes
-
--- a byte put behind others may be put before them
-sets-late : (o : List ℕ) (at : ℕ) (s : List ℕ) (j x : ℕ) → at + length s ≤ j → sets (set o j x) at s ≡ set (sets o at s) j x
-sets-late o at [] j x h = refl
-sets-late o at (y ∷ s) j x h =
-    ap (λ (l : List ℕ). sets l (suc at) s) (set-comm o j at x y (λ e. omega arith)) ∙ sets-late (set o at y) (suc at) s j x (omega arith)
 
 -- the digits before `to` are still to be put: those of `rest`
 pub record Digits (o₀ o : List ℕ) (at n rest to : ℕ) : Type 0 where
@@ -86,7 +81,7 @@ module _ (o₀ o : List ℕ) (at n rest to : ℕ) (d : Digits o₀ o at n rest t
 
           before : sets (set o (at + k) (48 + rest % 10)) at (lastDigits k (rest / 10)) ≡ sets o at (lastDigits (suc k) rest)
           before =
-              sets-late o at (lastDigits k (rest / 10)) (at + k) (48 + rest % 10) (omega (arith, lastDigits-length k (rest / 10)))
+              sets-apart o at (lastDigits k (rest / 10)) (at + k) (48 + rest % 10) (inr (omega (arith, lastDigits-length k (rest / 10))))
               ∙ ap (λ (j : ℕ). set (sets o at (lastDigits k (rest / 10))) (at + j) (48 + rest % 10)) (sym (lastDigits-length k (rest / 10)))
               ∙ sym (sets-append o at (lastDigits k (rest / 10)) ((48 + rest % 10) ∷ []))
 

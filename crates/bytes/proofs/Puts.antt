@@ -1,12 +1,13 @@
 -- Bytes put into a lent buffer, one run of them after the other, and the line that they make up. o is the buffer, with a number for each
 -- state of it; a, b and c are places. Assumes nothing.
 use mathlib.Core.Path.{_≡_, refl, sym, ap, _∙_, subst}
+use mathlib.Core.Logic.{_⊎_, inl, inr}
 use mathlib.Core.List.{List, [], _∷_, _++_, append-assoc}
-use Prim.Native.Nat.{ℕ, suc, _+_, _≤_}
+use Prim.Native.Nat.{ℕ, suc, _+_, _<_, _≤_}
 use native.Mathlib.Omega.{arith}
 use native.Mathlib.Nat.{add-zero}
 use lib.ListN.{length, set, drop, length-append, length-set}
-use lib.Seq.{sets, sets-eq, append-snoc}
+use lib.Seq.{sets, sets-eq, set-comm, append-snoc}
 use borrow.Author.Needs.{needs}
 use Rattle.rules.specs.Text.{TAB, LF}
 use Rattle.rules.specs.Line.{Row}
@@ -19,6 +20,21 @@ pub sets-append : (o : List ℕ) (at : ℕ) (s t : List ℕ) → sets o at (s ++
 sets-append o at [] t = rw add-zero
 sets-append o at (x ∷ s) t =
     sets-append (set o at x) (suc at) s t ∙ ap (λ (k : ℕ). sets (sets (set o at x) (suc at) s) k t) (omega arith)
+
+-- a byte apart from them, before or behind, may be put first
+pub sets-apart : (o : List ℕ) (at : ℕ) (s : List ℕ) (j x : ℕ) → (j < at) ⊎ (at + length s ≤ j)
+    → sets (set o j x) at s ≡ set (sets o at s) j x
+sets-apart o at [] j x h = refl
+sets-apart o at (y ∷ s) j x h =
+    ap (λ (l : List ℕ). sets l (suc at) s) (set-comm o j at x y (other h)) ∙ sets-apart (set o at y) (suc at) s j x (further h)
+  where
+    other : (j < at) ⊎ (at + length (y ∷ s) ≤ j) → j ≡ at → ⊥
+    other (inl k) e = omega arith
+    other (inr k) e = omega arith
+
+    further : (j < at) ⊎ (at + length (y ∷ s) ≤ j) → (j < suc at) ⊎ (suc at + length s ≤ j)
+    further (inl k) = inl (omega arith)
+    further (inr k) = inr (omega arith)
 
 pub put-none : (o : List ℕ) (a : ℕ) → Put o o a a []
 put-none o a = record { wrote = refl; place = omega arith; long = refl }

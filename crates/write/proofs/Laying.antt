@@ -1,12 +1,12 @@
 -- Memory that stores a table lays its tree down: following the links from the top's first child on goes through the tree. And what
 -- writing a whole table asks and does. texts are those that hold the contents, ls and fs the two arrays, t is the table's rows, f a
 -- tree, a and b are facts; r is a parent, p the one before. Assumes nothing.
-use mathlib.Core.Path.{_≡_, refl, sym, ap, _∙_, subst}
+use mathlib.Core.Path.{_≡_, refl, sym, subst}
 use mathlib.Core.List.{List, List·Memᴰ·head as here, List·Memᴰ·tail as there, Memᴰ·append-left, Memᴰ·append-right}
-use Prim.Native.Nat.{ℕ, suc}
+use Prim.Native.Nat.{ℕ}
 use native.Mathlib.Omega.{arith}
 use lib.Dec.{T}
-use lib.ListN.{length, length-append}
+use lib.ListN.{length}
 use borrow.Author.Needs.{needs}
 use borrow.Author.Tests.{ne-eqb}
 use Rattle.rules.specs.Lists.{_∈_}
@@ -24,14 +24,7 @@ use Rattle.facts.specs.Memory.{FOLLOWER, FIRST, field, who, way}
 use Rattle.facts.proofs.Shown.{linked}
 use Rattle.bytes.proofs.Puts.{put-over}
 use Rattle.write.specs.Stored.{HasContent, contentAt, Stored}
-use Rattle.write.specs.Writing.{size, Laid, ListReady, Done, ListWritten, TableReady, TableWritten}
-
--- ---- how many records
-
-rows-size : (r : ℕ) (f : Tree) → length (rows r f) ≡ size f
-rows-size r empty = refl
-rows-size r (node n c below after) =
-    ap suc (length-append (rows n below) (rows r after) ∙ omega (arith, rows-size n below, rows-size r after))
+use Rattle.write.specs.Writing.{Laid, ListReady, Done, ListWritten, TableReady, TableWritten}
 
 module _ (texts : List (List ℕ)) (ls fs : List ℕ) where
   -- ---- from facts to links
@@ -94,9 +87,6 @@ module _ (texts : List (List ℕ)) (ls fs : List ℕ) where
         laid-by (factsOf t .positions) (factsOf t .contents) (linked ls fs t (s .holds) (s .readable)) content-valid content-has
         content-reads TOP START (treeOf t) (is .positions-in) (is .contents-in)
 
-    table-size : size (treeOf t) ≡ length t
-    table-size = sym (rows-size TOP (treeOf t)) ∙ rows-count t (s .readable)
-
   -- ---- a whole table written
 
   pub table-first : (count room first : ℕ) → TableReady texts ls fs count room → first ≡ field ls fs TOP FIRST
@@ -104,7 +94,7 @@ module _ (texts : List (List ℕ)) (ls fs : List ℕ) where
   table-first count room first w e = record {
     tree = treeOf (w .t);
     laid = subst (λ (k : ℕ). Laid texts ls fs k (treeOf (w .t))) (sym e) (table-laid (w .t) (w .stored));
-    few = omega (arith, table-size (w .t) (w .stored), w .counted);
+    few = omega (arith, rows-count (w .t) (w .stored .readable), w .counted);
     fits = omega (arith, w .fits);
   }
 
@@ -113,7 +103,7 @@ module _ (texts : List (List ℕ)) (ls fs : List ℕ) where
       → TableWritten texts ls fs out out′
   table-written count first {out} {out′} {at′} {left′} w e v = record { all = go }
     where
-      done : (t : List Row) → Stored texts ls fs t → Done out out′ 0 count at′ left′ (tidied t) (size (treeOf t))
+      done : (t : List Row) → Stored texts ls fs t → Done out out′ 0 count at′ left′ (tidied t) (length (rows TOP (treeOf t)))
       done t s = v .all (treeOf t) (subst (λ (k : ℕ). Laid texts ls fs k (treeOf t)) (sym e) (table-laid t s))
 
       go : (t : List Row) → Stored texts ls fs t → out′ ≡ over (tidied t) out

@@ -1,12 +1,12 @@
 -- The part of a text that a place tells, and the line of a record made with it. texts are the texts, handed over as references or as
 -- their bytes; ls and fs are the two arrays, r is a parent, n a record. Assumes nothing.
-use mathlib.Core.Path.{_≡_, refl, ap, subst}
-use mathlib.Core.List.{List, [], _∷_, map}
-use Prim.Native.Nat.{ℕ, zero, suc, _+_, _-_, _/_, _%_, _<_, _≤_}
+use mathlib.Core.Path.{_≡_, sym, ap, _∙_, subst}
+use mathlib.Core.List.{List, [], map}
+use Prim.Native.Nat.{ℕ, _+_, _-_, _/_, _%_, _<_, _≤_}
 use native.Mathlib.Omega.{arith}
 use native.Mathlib.Nat.{add-sub-cancel-left}
 use denote.Ref.{RefT, now}
-use lib.ListN.{length, getD, take, drop}
+use lib.ListN.{length, getD, take, drop, length-map, List·getD-map}
 use borrow.Author.Needs.{needs}
 use Rattle.rules.specs.Written.{width, line}
 use Rattle.readback.proofs.ReadBack.{line-length}
@@ -17,21 +17,15 @@ use Rattle.write.specs.Writing.{rowAt}
 
 -- ---- one of the texts
 
-pub text-at : (texts : List (RefT (List ℕ))) (k : ℕ) (other : RefT (List ℕ)) → k < length texts
+pub text-at : (texts : List (RefT (List ℕ))) (k : ℕ) (other : RefT (List ℕ)) → now other ≡ []
     → now (getD texts k other) ≡ getD (map now texts) k []
-text-at [] k other h = absurd (omega arith)
-text-at (x ∷ texts) zero other h = refl
-text-at (x ∷ texts) (suc k) other h = text-at texts k other (omega arith)
-
-texts-count : (texts : List (RefT (List ℕ))) → length (map now texts) ≡ length texts
-texts-count [] = refl
-texts-count (x ∷ texts) = ap suc (texts-count texts)
+text-at texts k other e = sym (List·getD-map now texts k other) ∙ ap (getD (map now texts) k) e
 
 -- ---- the part
 
 module _ (texts : List (RefT (List ℕ))) (place long : ℕ) (w : Lies (map now texts) place long) where
   pub part-text : place / SPAN < length texts
-  part-text = omega (arith, w .text, texts-count texts)
+  part-text = omega (arith, w .text, length-map texts now)
 
   module _ (text : List ℕ) (e : text ≡ getD (map now texts) (place / SPAN) []) where
     pub part-ends : place % SPAN + long ≤ length text

@@ -15,7 +15,7 @@ use Rattle.facts.specs.Memory.{FOLLOWER, FIRST, field}
 use Rattle.bytes.specs.Put.{Put}
 use Rattle.bytes.proofs.Puts.{put-none, put-then}
 use Rattle.write.specs.Stored.{contentAt}
-use Rattle.write.specs.Writing.{size, Laid, rowAt, recordBytes, ListReady, RecordReady, Done, ListWritten, RecordWritten}
+use Rattle.write.specs.Writing.{Laid, rowAt, recordBytes, ListReady, RecordReady, Done, ListWritten, RecordWritten}
 
 written-append : (s t : List Row) → written (s ++ t) ≡ written s ++ written t
 written-append [] t = refl
@@ -42,6 +42,11 @@ module _ (texts : List (List ℕ)) (ls fs : List ℕ) (r n : ℕ) where
   bytes-length m c below after e d =
       ap length (list-bytes m c below after e d) ∙ length-append (recordBytes texts ls fs r n below) (written (rows r after))
 
+  -- and how many records it has
+  list-count : (m : ℕ) (c : Content) (below after : Tree) → m ≡ n
+      → length (rows r (node m c below after)) ≡ suc (length (rows n below) + length (rows r after))
+  list-count m c below after e = ap suc (length-append (rows m below) (rows r after)) ∙ rw e
+
   record-length : (below : Tree)
       → length (recordBytes texts ls fs r n below) ≡ length (line (rowAt texts ls fs r n)) + length (written (rows n below))
   record-length below = length-append (line (rowAt texts ls fs r n)) (written (rows n below))
@@ -53,14 +58,14 @@ module _ (texts : List (List ℕ)) (ls fs : List ℕ) (r n : ℕ) where
     pub list-first : (room : ℕ) → ListReady texts ls fs r n at left room → (n ≡ END → ⊥) → RecordReady texts ls fs r n at left room
     list-first room w z = go (w .tree) (w .laid) (w .few) (w .fits)
       where
-        go : (f : Tree) → Laid texts ls fs n f → size f ≤ left → at + length (written (rows r f)) ≤ room
+        go : (f : Tree) → Laid texts ls fs n f → length (rows r f) ≤ left → at + length (written (rows r f)) ≤ room
             → RecordReady texts ls fs r n at left room
         go empty e h g = absurd (z e)
         go (node m c below after) e h g = record {
           below = below;
           content = e .2;
           laid = e .4;
-          few = omega arith;
+          few = omega (arith, list-count m c below after (e .1));
           fits = omega (arith, bytes-length m c below after (e .1) (e .3));
         }
 
@@ -77,7 +82,7 @@ module _ (texts : List (List ℕ)) (ls fs : List ℕ) (r n : ℕ) where
         → ListReady texts ls fs r next at′ left′ (length mid)
     list-rest {out} {mid} {at′} {left′} next w z d q = go (w .tree) (w .laid) (w .few) (w .fits)
       where
-        go : (f : Tree) → Laid texts ls fs n f → size f ≤ left → at + length (written (rows r f)) ≤ length out
+        go : (f : Tree) → Laid texts ls fs n f → length (rows r f) ≤ left → at + length (written (rows r f)) ≤ length out
             → ListReady texts ls fs r next at′ left′ (length mid)
         go empty e h g = absurd (z e)
         go (node m c below after) e h g =
@@ -85,7 +90,7 @@ module _ (texts : List (List ℕ)) (ls fs : List ℕ) (r n : ℕ) where
             record {
               tree = after;
               laid = subst (λ (k : ℕ). Laid texts ls fs k after) (sym q) (e .5);
-              few = omega (arith, x .rest);
+              few = omega (arith, x .rest, list-count m c below after (e .1));
               fits = omega (arith, bytes-length m c below after (e .1) (e .3), x .put .place, x .put .long);
             }
 
@@ -105,7 +110,7 @@ module _ (texts : List (List ℕ)) (ls fs : List ℕ) (r n : ℕ) where
   pub list-none : {out : List ℕ} {at left : ℕ} → n ≡ END → ListWritten texts ls fs r n out out at left at left
   list-none {out} {at} {left} e = record { all = go }
     where
-      go : (f : Tree) → Laid texts ls fs n f → Done out out at left at left (written (rows r f)) (size f)
+      go : (f : Tree) → Laid texts ls fs n f → Done out out at left at left (written (rows r f)) (length (rows r f))
       go empty d = record { put = put-none out at; rest = omega arith }
       go (node m c below after) d = absurd (d .0 e)
 
@@ -114,14 +119,14 @@ module _ (texts : List (List ℕ)) (ls fs : List ℕ) (r n : ℕ) where
       → ListWritten texts ls fs r next mid out′ atm leftm at′ left′ → ListWritten texts ls fs r n out out′ at left at′ left′
   list-more {out} {mid} {out′} {at} {left} {atm} {leftm} {at′} {left′} next z w q v = record { all = go }
     where
-      go : (f : Tree) → Laid texts ls fs n f → Done out out′ at left at′ left′ (written (rows r f)) (size f)
+      go : (f : Tree) → Laid texts ls fs n f → Done out out′ at left at′ left′ (written (rows r f)) (length (rows r f))
       go empty d = absurd (z d)
       go (node m c below after) d =
           let x = w .all below (d .4) in
           let y = v .all after (subst (λ (k : ℕ). Laid texts ls fs k after) (sym q) (d .5)) in
           record {
             put = subst (Put out out′ at at′) (sym (list-bytes m c below after (d .1) (d .3))) (put-then (x .put) (y .put));
-            rest = omega (arith, x .rest, y .rest);
+            rest = omega (arith, x .rest, y .rest, list-count m c below after (d .1));
           }
 
   pub record-more : {out mid out′ : List ℕ} {at left atm at′ left′ : ℕ} (first : ℕ) → 0 < left
@@ -130,7 +135,7 @@ module _ (texts : List (List ℕ)) (ls fs : List ℕ) (r n : ℕ) where
   record-more {out} {mid} {out′} {at} {left} {atm} {at′} {left′} first h p q v = record { all = go }
     where
       go : (below : Tree) → Laid texts ls fs (field ls fs n FIRST) below
-          → Done out out′ at left at′ left′ (recordBytes texts ls fs r n below) (suc (size below))
+          → Done out out′ at left at′ left′ (recordBytes texts ls fs r n below) (suc (length (rows n below)))
       go below d =
           let y = v .all below (subst (λ (k : ℕ). Laid texts ls fs k below) (sym q) d) in
           record { put = put-then p (y .put); rest = omega (arith, y .rest) }

@@ -13,11 +13,6 @@ use Rattle.facts.specs.Memory.{FOLLOWER, FIRST, field}
 use Rattle.bytes.specs.Put.{Put}
 use Rattle.write.specs.Stored.{HasContent, contentAt, Stored}
 
--- how many records a tree has
-abbrev pub size : Tree → ℕ
-size empty = 0
-size (node n c below after) = suc (size below + size after)
-
 -- these bytes are put there, and so many records fewer are unwritten
 pub record Done (out out′ : List ℕ) (at left at′ left′ : ℕ) (bytes : List ℕ) (count : ℕ) : Type 0 where
   pub put : Put out out′ at at′ bytes
@@ -47,24 +42,24 @@ module _ (texts : List (List ℕ)) (ls fs : List ℕ) where
   pub record ListReady (r n at left room : ℕ) : Type 0 where
     pub tree : Tree
     pub laid : Laid n tree
-    pub few : size tree ≤ left
+    pub few : length (rows r tree) ≤ left
     pub fits : at + length (written (rows r tree)) ≤ room
 
   pub record RecordReady (r n at left room : ℕ) : Type 0 where
     pub below : Tree
     pub content : HasContent texts ls fs n
     pub laid : Laid (field ls fs n FIRST) below
-    pub few : suc (size below) ≤ left
+    pub few : suc (length (rows n below)) ≤ left
     pub fits : at + length (recordBytes r n below) ≤ room
 
   -- ---- what is done, whatever tree the links lay down
 
   pub record ListWritten (r n : ℕ) (out out′ : List ℕ) (at left at′ left′ : ℕ) : Type 0 where
-    pub all : (f : Tree) → Laid n f → Done out out′ at left at′ left′ (written (rows r f)) (size f)
+    pub all : (f : Tree) → Laid n f → Done out out′ at left at′ left′ (written (rows r f)) (length (rows r f))
 
   pub record RecordWritten (r n : ℕ) (out out′ : List ℕ) (at left at′ left′ : ℕ) : Type 0 where
     pub all : (below : Tree) → Laid (field ls fs n FIRST) below
-        → Done out out′ at left at′ left′ (recordBytes r n below) (suc (size below))
+        → Done out out′ at left at′ left′ (recordBytes r n below) (suc (length (rows n below)))
 
   -- ---- a whole table: its written form from byte 0 on, and behind it what lay there
 
