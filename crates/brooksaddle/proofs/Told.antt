@@ -23,14 +23,14 @@ use Rattle.readback.proofs.Faults.{stands-in, in-stands}
 use Rattle.readback.proofs.Accepting.{accepted-text, good, refused-code}
 use Rattle.readback.proofs.Tidying.{tidied-length}
 use Rattle.readback.proofs.Parts.{part-none, part-content, part-within}
-use Rattle.facts.specs.Memory.{ROOM, PLACE, LENGTH, lineAt, field}
+use Rattle.facts.specs.Memory.{ROOM, PLACE, LENGTH, SPAN, startOf, textOf, lineAt, field}
 use Rattle.facts.specs.Asked.{hasIn}
 use Rattle.facts.specs.Holds.{Holds}
 use Rattle.facts.proofs.Shown.{number-row}
 use Rattle.rules.specs.declared.answers.Part.{Part}
 use Rattle.table.specs.declared.Read.{Read}
 use Rattle.table.specs.Read.{readTold, Reads}
-use Rattle.write.specs.Stored.{SPAN, partIn, Lies, HasContent, contentAt, Stored}
+use Rattle.write.specs.Stored.{partIn, Lies, HasContent, contentAt, Stored}
 use Rattle.write.specs.Writing.{TableReady, TableWritten}
 use Rattle.trees.proofs.OneTable.{row-number}
 use Rattle.depth.specs.Climbing.{greatestOn, Climbs}
@@ -40,8 +40,8 @@ use Rattle.depth.proofs.Greatest.{climbs, greatest}
 in-first : (text : List ℕ) (place long : ℕ) → place < SPAN → place + long ≤ length text → (content : List ℕ)
     → content ≡ take long (drop place text) → Lies (text ∷ []) place long × (content ≡ partIn (text ∷ []) place long)
 in-first text place long h g content e =
-    let first : place / SPAN ≡ 0 = omega arith in
-    let same : place % SPAN ≡ place = omega arith in
+    let first : textOf place ≡ 0 = omega arith in
+    let same : startOf place ≡ place = omega arith in
     (record { text = omega arith; within = rw (first, same) g }, rw (first, same) e)
 
 module _ (text ls fs : List ℕ) (a : Read) (w : Reads text ls fs a) where

@@ -3,7 +3,7 @@
 -- field. Assumes nothing.
 use mathlib.Core.Bool.{cond}
 use mathlib.Core.List.{List}
-use Prim.Native.Nat.{ℕ, _+_, _*_}
+use Prim.Native.Nat.{ℕ, _+_, _*_, _-_, _/_, _%_}
 use lib.Dec.{eqb, ltb}
 use lib.ListN.{getD, set, replicate}
 use Rattle.rules.specs.Marks.{START, END}
@@ -40,12 +40,40 @@ FIRST = 4
 abbrev pub LAST : ℕ
 LAST = 5
 
--- where the content starts in its text, and how long it is
+-- where the content lies, and how long it is
 abbrev pub PLACE : ℕ
 PLACE = 6
 
 abbrev pub LENGTH : ℕ
 LENGTH = 7
+
+-- tables that lie side by side: old, first and second
+abbrev pub TABLES : ℕ
+TABLES = 3
+
+-- all of them but old
+abbrev pub BRANCHES : ℕ
+BRANCHES = TABLES - 1
+
+-- ---- a place: the origin of the content, the text that holds it, and where it starts there. A table just read has one text, and no
+-- origin.
+
+-- places of a text that are told apart
+abbrev pub SPAN : ℕ
+SPAN = 65536
+
+-- texts that are told apart
+abbrev pub TEXTS : ℕ
+TEXTS = 16
+
+abbrev pub startOf : ℕ → ℕ
+startOf place = place % SPAN
+
+abbrev pub textOf : ℕ → ℕ
+textOf place = place / SPAN % TEXTS
+
+abbrev pub originOf : ℕ → ℕ
+originOf place = place / SPAN / TEXTS
 
 -- ---- what is read
 

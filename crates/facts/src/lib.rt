@@ -7,6 +7,7 @@ ghost use mathlib.Core.List.{[], _∷_};
 ghost use Prim.Native.Nat.{_+_, _*_, _<_};
 ghost use lib.ListN.{getD, length};
 ghost use Rattle.facts.specs.Memory.{NUMBERS, ROOM, WIDTH, NUMBER, PARENT, FORERUNNER, FOLLOWER, FIRST, LAST, PLACE, LENGTH};
+ghost use Rattle.facts.specs.Memory.{TABLES, SPAN, TEXTS};
 ghost use Rattle.facts.specs.Memory.{lineAt, field, who, way, laid, putField, addLine, addFacts, opened};
 ghost use Rattle.facts.specs.Asked.{hasIn, listIn, childIn, asked};
 
@@ -24,7 +25,15 @@ pub const WIDTH: usize = 8;
 // so many fields in all
 pub const FACTS: usize = 8200;
 
-// the fields of a line; the last two say where its content starts in its text, and how long it is
+// so many tables lie side by side: old, first and second
+pub const TABLES: usize = 3;
+
+// so many places of a text are told apart, and so many texts
+pub const SPAN: u32 = 65536;
+
+pub const TEXTS: u32 = 16;
+
+// the fields of a line; the last two say where its content lies, and how long it is
 pub const NUMBER: usize = 0;
 
 pub const PARENT: usize = 1;
@@ -41,11 +50,17 @@ pub const PLACE: usize = 6;
 
 pub const LENGTH: usize = 7;
 
-// These two tie the constants to the definitions of the same names.
-pub fn shape() -> [usize; 4]
-    ensures { λ r. ⌜ r ≡ NUMBERS ∷ ROOM ∷ WIDTH ∷ (ROOM * WIDTH) ∷ [] ⌝ }
+// These three tie the constants to the definitions of the same names.
+pub fn shape() -> [usize; 5]
+    ensures { λ r. ⌜ r ≡ NUMBERS ∷ ROOM ∷ WIDTH ∷ (ROOM * WIDTH) ∷ TABLES ∷ [] ⌝ }
 {
-    [NUMBERS, ROOM, WIDTH, FACTS]
+    [NUMBERS, ROOM, WIDTH, FACTS, TABLES]
+}
+
+pub fn spans() -> [u32; 2]
+    ensures { λ r. ⌜ r ≡ SPAN ∷ TEXTS ∷ [] ⌝ }
+{
+    [SPAN, TEXTS]
 }
 
 pub fn fields() -> [usize; 8]

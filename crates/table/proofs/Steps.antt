@@ -15,11 +15,11 @@ use borrow.Author.Tests.{not-true, not-false}
 use Rattle.rules.specs.Limits.{BYTES}
 use Rattle.rules.specs.Codes.{accepted, textTooLong, unended}
 use Rattle.rules.specs.Text.{LF, count, ended}
-use Rattle.facts.specs.Memory.{NUMBERS, ROOM, LAST, field, addLine, addFacts, noLines, noFacts, opened}
+use Rattle.facts.specs.Memory.{TABLES, NUMBERS, ROOM, LAST, field, addLine, addFacts, noLines, noFacts, opened}
 use Rattle.line.specs.declared.Line.{Line}
 use Rattle.line.specs.Told.{nextLine}
 use Rattle.table.specs.declared.Read.{Read}
-use Rattle.table.specs.Read.{told, faultIn, TABLES, Begins, Reads, Fills}
+use Rattle.table.specs.Read.{told, faultIn, Begins, Reads, Fills}
 use Rattle.table.proofs.Reading.{Reading, too-long, not-ended, out, finish}
 use Rattle.table.proofs.Growing.{begins, goes-on, small, reading-few}
 

@@ -13,7 +13,7 @@ use Rattle.rules.specs.Text.{ended}
 use Rattle.rules.specs.Line.{Row}
 use Rattle.rules.specs.Table.{numbers, Verdict, readable, unreadable, verdict}
 use Rattle.rules.specs.Calls.{contentAnswer}
-use Rattle.facts.specs.Memory.{noLines, noFacts, opened}
+use Rattle.facts.specs.Memory.{TABLES, noLines, noFacts, opened}
 use Rattle.facts.specs.Asked.{hasIn, listIn}
 use Rattle.facts.specs.Holds.{Holds, partAt}
 use Rattle.line.specs.declared.Line.{Line}
@@ -49,10 +49,6 @@ faultIn ls count l =
     (cond (not (listIn ls (l .parent))) parentMissing accepted)))
 
 -- ---- tables side by side
-
--- old, first and second
-abbrev pub TABLES : ℕ
-TABLES = 3
 
 -- the place of table t is all zeros
 pub record Unread (lines facts : List (List ℕ)) (t : ℕ) : Type 0 where

@@ -1,6 +1,7 @@
 // A whole table, read into memory: line after line, each split off and judged by what memory knows of the lines before it.
 use facts::FACTS;
 use facts::NUMBERS;
+use facts::TABLES;
 use facts::add_line;
 use facts::has;
 use facts::list;
@@ -19,11 +20,8 @@ use text::ended;
 use text::ends;
 ghost use mathlib.Core.Path.{_≡_};
 ghost use lib.ListN.{length};
-ghost use Rattle.facts.specs.Memory.{noLines, noFacts};
-ghost use Rattle.table.specs.Read.{TABLES, told, faultIn, Begins, Reads, Unread, Fills};
-
-// Old, first and second lie side by side, in this order.
-pub const TABLES: usize = 3;
+ghost use Rattle.facts.specs.Memory.{TABLES, noLines, noFacts};
+ghost use Rattle.table.specs.Read.{told, faultIn, Begins, Reads, Unread, Fills};
 
 // What reading tells: code, line, count of records.
 pub struct Read {

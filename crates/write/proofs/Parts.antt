@@ -10,9 +10,9 @@ use lib.ListN.{length, getD, take, drop, length-map, List·getD-map}
 use borrow.Author.Needs.{needs}
 use Rattle.rules.specs.Written.{width, line}
 use Rattle.readback.proofs.ReadBack.{line-length}
-use Rattle.facts.specs.Memory.{PLACE, LENGTH, field}
+use Rattle.facts.specs.Memory.{PLACE, LENGTH, startOf, textOf, field}
 use Rattle.bytes.specs.Put.{Put}
-use Rattle.write.specs.Stored.{SPAN, partIn, Lies, HasContent, contentAt}
+use Rattle.write.specs.Stored.{partIn, Lies, HasContent, contentAt}
 use Rattle.write.specs.Writing.{rowAt}
 
 -- ---- one of the texts
@@ -24,15 +24,15 @@ text-at texts k other e = sym (List·getD-map now texts k other) ∙ ap (getD (m
 -- ---- the part
 
 module _ (texts : List (RefT (List ℕ))) (place long : ℕ) (w : Lies (map now texts) place long) where
-  pub part-text : place / SPAN < length texts
+  pub part-text : textOf place < length texts
   part-text = omega (arith, w .text, length-map texts now)
 
-  module _ (text : List ℕ) (e : text ≡ getD (map now texts) (place / SPAN) []) where
-    pub part-ends : place % SPAN + long ≤ length text
+  module _ (text : List ℕ) (e : text ≡ getD (map now texts) (textOf place) []) where
+    pub part-ends : startOf place + long ≤ length text
     part-ends = rw e (w .within)
 
-    pub part-cut : take (place % SPAN + long - place % SPAN) (drop (place % SPAN) text) ≡ partIn (map now texts) place long
-    part-cut = rw (add-sub-cancel-left (place % SPAN) long, e)
+    pub part-cut : take (startOf place + long - startOf place) (drop (startOf place) text) ≡ partIn (map now texts) place long
+    part-cut = rw (add-sub-cancel-left (startOf place) long, e)
 
 pub ruleset parts = (text-at, part-text, part-ends, part-cut, needs)
 

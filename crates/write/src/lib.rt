@@ -7,6 +7,8 @@ use facts::FOLLOWER;
 use facts::LENGTH;
 use facts::NUMBERS;
 use facts::PLACE;
+use facts::SPAN;
+use facts::TEXTS;
 use facts::field;
 use rules::record::Record;
 ghost use mathlib.Core.Path.{_≡_};
@@ -15,11 +17,8 @@ ghost use Prim.Native.Nat.{_+_, _<_, _≤_};
 ghost use lib.ListN.{length, getD};
 ghost use Rattle.rules.specs.Written.{line};
 ghost use Rattle.bytes.specs.Put.{Put};
-ghost use Rattle.write.specs.Stored.{SPAN, partIn, Lies, HasContent};
+ghost use Rattle.write.specs.Stored.{partIn, Lies, HasContent};
 ghost use Rattle.write.specs.Writing.{rowAt, ListReady, RecordReady, ListWritten, RecordWritten, TableReady, TableWritten};
-
-// Places of a text that are told apart.
-pub const SPAN: u32 = 65536;
 
 // Where the next byte goes, and how many records are still unwritten.
 pub struct Progress {
@@ -40,7 +39,7 @@ fn part<'a>(texts: &[&'a [u8]], place: u32, long: u32) -> &'a [u8]
     requires { ⌜ Lies (map now (now texts)) place long ⌝ }
     ensures { λ r. ⌜ now r ≡ partIn (map now (now (texts .entry))) place long ⌝ }
 {
-    let text = text_of(texts, (place / SPAN) as usize);
+    let text = text_of(texts, (place / SPAN % TEXTS) as usize);
     let start = (place % SPAN) as usize;
     let end = start + long as usize;
     &text[start..end]
