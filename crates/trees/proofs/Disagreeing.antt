@@ -12,7 +12,7 @@ use Rattle.rules.specs.Marks.{isRecord}
 use Rattle.rules.specs.Line.{Content, Row}
 use Rattle.rules.specs.Facts.{ContentFact, ParentGiven, PositionFact, contentsDisagree, neighboursDisagree, parentGiven, parentsDiffer}
 use Rattle.rules.specs.Facts.{parentsDisagree, parentsGiven, positionsDisagree, sameContent, sameContentFact, samePosition}
-use Rattle.trees.proofs.Lists.{any-in, any-out, cannot-fail, or-left, or-right, put-out}
+use Rattle.trees.proofs.Lists.{any-in, any-out, cannot-fail, or-left, or-right, put-here, put-out, put-there}
 use Rattle.trees.proofs.Kept.{Tells}
 
 -- ---- the parts of facts and rows, as functions
@@ -180,6 +180,13 @@ content-flip a b t =
 -- to whom a position fact gives a parent
 abbrev pub Given : ParentGiven → PositionFact → Type 0
 Given g a = (g .parent ≡ a .parent) × T (isRecord (g .number)) × ((g .number ≡ a .before) ⊎ (g .number ≡ a .after))
+
+pub given-in : (n : ℕ) (a : PositionFact) → T (isRecord n) → (n ≡ a .before) ⊎ (n ≡ a .after) → parentGiven n (a .parent) ∈ parentsGiven a
+given-in n a t (inl e) =
+    put-here _ (isRecord (a .before)) (λ i. parentGiven (e i) (a .parent)) (subst (λ (k : ℕ). T (isRecord k)) e t)
+given-in n a t (inr e) =
+    put-there _ (isRecord (a .before))
+    (put-here [] (isRecord (a .after)) (λ i. parentGiven (e i) (a .parent)) (subst (λ (k : ℕ). T (isRecord k)) e t))
 
 pub given-out : (g : ParentGiven) (a : PositionFact) → g ∈ parentsGiven a → Given g a
 given-out g a m = go (put-out toBefore (put (isRecord (a .after)) toAfter []) (isRecord (a .before)) m)

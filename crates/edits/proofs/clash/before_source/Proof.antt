@@ -1,0 +1,78 @@
+-- The proof of `before_source`: one branch after the other. Assumes nothing.
+use Prim.Native.Nat.{ℕ, _-_}
+use denote.Ref.{now}
+use Rattle.facts.specs.Memory.{TABLES}
+use Rattle.edits.specs.Memory.{ask}
+use Rattle.edits.specs.Positions.{fresh}
+use Rattle.edits.proofs.Branches.{Left, fresh-here, fresh-on, seeks}
+use Rattle.edits.proofs.clash.before_source.Statement.{statement}
+use Rattle.edits.proofs.clash.before_source.Tie as tie
+use Rattle.edits.proofs.clash.before_source.Reads as reads
+use Rattle.edits.proofs.clash.before_source.Lts as lts
+use Rattle.edits.proofs.forerunner_in.Reads as forerunner-in-reads
+use Rattle.edits.proofs.fresh.Reads as fresh-reads
+
+abbrev Inv-loop : tie.InvT-loop
+Inv-loop lines facts r s o t₀ t = Left (λ k. fresh o (ask lines facts k .before r s)) t
+
+abbrev μ-loop : tie.MeasureT-loop
+μ-loop lines facts r s o t₀ t = TABLES - t
+
+-- src/lib.rt:215:5
+loop-holds : tie.Need-loop-holds Inv-loop μ-loop
+loop-holds c = search seeks
+
+-- src/lib.rt:216:13
+forerunner-in-requires : tie.Need-forerunner-in-requires Inv-loop μ-loop
+forerunner-in-requires c κs = search seeks
+
+-- src/lib.rt:217:12
+fresh-requires : tie.Need-fresh-requires Inv-loop μ-loop
+fresh-requires c κs = search seeks
+
+-- src/lib.rt:218:13
+returns : tie.Need-returns Inv-loop μ-loop
+returns c =
+    let loop = c .before .before .before .before in
+    let s = loop .before .args in
+    let v : ℕ → ℕ = λ k. ask (now (s .lines)) (now (s .facts)) k .before (s .r) (s .s) in (
+      fresh-here v (s .o) _ _ _ (loop .loop .inv) (c .before .before .before .loop-test .taken) (c .before .before .forerunner-in .ensures)
+          (c .before .fresh .ensures) (c .if1 .taken),
+      c .before .before .before .loop-test .taken,
+    )
+
+-- src/lib.rt:220:9
+add-t : tie.Need-add-t Inv-loop μ-loop
+add-t c = search seeks
+
+-- src/lib.rt:215:5
+loop-less : tie.Need-loop-less Inv-loop μ-loop
+loop-less c = search seeks
+
+-- src/lib.rt:215:5
+loop-again : tie.Need-loop-again Inv-loop μ-loop
+loop-again c =
+    let loop = c .before .before .before .before in
+    let s = loop .before .args in
+    let v : ℕ → ℕ = λ k. ask (now (s .lines)) (now (s .facts)) k .before (s .r) (s .s) in
+    fresh-on v (s .o) _ _ _ (loop .loop .inv) (c .before .before .before .loop-test .taken) (c .before .before .forerunner-in .ensures)
+    (c .before .fresh .ensures) (c .if1 .left)
+
+-- src/lib.rt:204:1
+returns-2 : tie.Need-returns-2 Inv-loop μ-loop
+returns-2 c = search seeks
+
+pub before-source-spec : {M : Type 1} → statement M
+before-source-spec =
+    tie.close
+    (tie.spec
+    Inv-loop
+    μ-loop
+    loop-holds
+    forerunner-in-requires
+    fresh-requires
+    returns
+    add-t
+    loop-less
+    loop-again
+    returns-2)

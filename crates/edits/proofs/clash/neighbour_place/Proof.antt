@@ -1,0 +1,57 @@
+-- The proof of `neighbour_place`: the lesser of two places. Assumes nothing.
+use denote.Ref.{now}
+use Rattle.edits.specs.Memory.{ask}
+use Rattle.edits.proofs.Ways.{neighbour-is}
+use borrow.Author.Needs.{needs}
+use Rattle.edits.proofs.clash.neighbour_place.Statement.{statement}
+use Rattle.edits.proofs.clash.neighbour_place.Tie as tie
+use Rattle.edits.proofs.clash.neighbour_place.Reads as reads
+use Rattle.edits.proofs.clash.neighbour_place.Lts as lts
+use Rattle.edits.proofs.parent_in.Reads as parent-in-reads
+use Rattle.edits.proofs.place.Reads as place-reads
+use Rattle.edits.proofs.smaller.Reads as smaller-reads
+use Rattle.edits.proofs.clash.torn.Reads as torn-reads
+
+-- src/lib.rt:326:9
+parent-in-requires : tie.Need-parent-in-requires
+parent-in-requires c κs = search needs
+
+-- src/lib.rt:327:9
+torn-requires : tie.Need-torn-requires
+torn-requires c κs = search needs
+
+-- src/lib.rt:328:9
+torn-requires-2 : tie.Need-torn-requires-2
+torn-requires-2 c κs = search needs
+
+-- src/lib.rt:329:9
+place-requires : tie.Need-place-requires
+place-requires c κs = search needs
+
+-- src/lib.rt:330:9
+place-requires-2 : tie.Need-place-requires-2
+place-requires-2 c κs = search needs
+
+-- src/lib.rt:331:5
+smaller-requires : tie.Need-smaller-requires
+smaller-requires c κs = search needs
+
+-- src/lib.rt:322:1
+returns : tie.Need-returns
+returns c =
+    let s = c .before .before .before .before .before .before .args in
+    neighbour-is (ask (now (s .lines)) (now (s .facts))) _ _ _ _ _ _ _ _ (c .before .before .before .before .before .parent-in .ensures)
+    (c .before .before .before .before .torn .ensures) (c .before .before .before .torn2 .ensures) (c .before .before .place .ensures)
+    (c .before .place2 .ensures) (c .smaller .ensures)
+
+pub neighbour-place-spec : {M : Type 1} → statement M
+neighbour-place-spec =
+    tie.close
+    (tie.spec
+    parent-in-requires
+    torn-requires
+    torn-requires-2
+    place-requires
+    place-requires-2
+    smaller-requires
+    returns)

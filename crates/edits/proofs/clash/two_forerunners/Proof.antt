@@ -1,0 +1,62 @@
+-- The proof of `two_forerunners`: the edit is compared with the first branch's. Assumes nothing.
+use denote.Ref.{now}
+use Rattle.edits.specs.Memory.{ask}
+use Rattle.edits.proofs.Ways.{two-differ, two-not}
+use borrow.Author.Needs.{needs}
+use Rattle.edits.proofs.clash.two_forerunners.Statement.{statement}
+use Rattle.edits.proofs.clash.two_forerunners.Tie as tie
+use Rattle.edits.proofs.clash.two_forerunners.Reads as reads
+use Rattle.edits.proofs.clash.two_forerunners.Lts as lts
+use Rattle.edits.proofs.clash.before_source.Reads as before-source-reads
+use Rattle.edits.proofs.forerunner_in.Reads as forerunner-in-reads
+use Rattle.edits.proofs.fresh.Reads as fresh-reads
+
+-- src/lib.rt:271:9
+forerunner-in-requires : tie.Need-forerunner-in-requires
+forerunner-in-requires c κs = search needs
+
+-- src/lib.rt:272:9
+forerunner-in-requires-2 : tie.Need-forerunner-in-requires-2
+forerunner-in-requires-2 c κs = search needs
+
+-- src/lib.rt:273:8
+fresh-requires : tie.Need-fresh-requires
+fresh-requires c κs = search needs
+
+-- src/lib.rt:274:13
+before-source-requires : tie.Need-before-source-requires
+before-source-requires c κs = search needs
+
+-- src/lib.rt:275:13
+forerunner-in-requires-3 : tie.Need-forerunner-in-requires-3
+forerunner-in-requires-3 c κs = search needs
+
+-- src/lib.rt:276:9
+returns : tie.Need-returns
+returns c =
+    let asked = c .before .before .before in
+    let s = asked .before .before .before .args in
+    two-differ (λ k. ask (now (s .lines)) (now (s .facts)) k .before (s .r) (s .s)) _ _ _ _ _ _
+    (asked .before .before .forerunner-in .ensures)
+    (asked .before .forerunner-in2 .ensures) (asked .fresh .ensures) (c .before .before .if1 .taken)
+    (c .before .before-source .ensures .0) (c .forerunner-in3 .ensures)
+
+-- src/lib.rt:261:1
+returns-2 : tie.Need-returns-2
+returns-2 c =
+    let asked = c .before in
+    let s = asked .before .before .before .args in
+    two-not (λ k. ask (now (s .lines)) (now (s .facts)) k .before (s .r) (s .s)) _ _ _ _ (asked .before .before .forerunner-in .ensures)
+    (asked .before .forerunner-in2 .ensures) (asked .fresh .ensures) (c .if1 .left)
+
+pub two-forerunners-spec : {M : Type 1} → statement M
+two-forerunners-spec =
+    tie.close
+    (tie.spec
+    forerunner-in-requires
+    forerunner-in-requires-2
+    fresh-requires
+    before-source-requires
+    forerunner-in-requires-3
+    returns
+    returns-2)

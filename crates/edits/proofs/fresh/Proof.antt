@@ -1,0 +1,17 @@
+-- The proof of `fresh`: somebody stands there, and it is not whom old has there. Assumes nothing.
+use Rattle.edits.proofs.Ways.{ways}
+use Rattle.edits.proofs.fresh.Statement.{statement}
+use Rattle.edits.proofs.fresh.Tie as tie
+use Rattle.edits.proofs.fresh.Reads as reads
+use Rattle.edits.proofs.fresh.Lts as lts
+
+-- src/lib.rt:117:9
+returns : tie.Need-returns
+returns c = search ways
+
+-- src/lib.rt:113:1
+returns-2 : tie.Need-returns-2
+returns-2 c = search ways
+
+pub fresh-spec : {M : Type 1} → statement M
+fresh-spec = tie.close (tie.spec returns returns-2)

@@ -1,0 +1,261 @@
+// Positions of the tables side by side: which facts are edits, where two edits clash, and who follows by the kept facts. Table 0 is
+// old, the others are the branches. All of it is asked of one table at a time; 0 is the answer "none". n is a record, r a parent, p the
+// one before, s the one after, o what old answers, t a table.
+pub mod clash;
+
+use facts::FACTS;
+use facts::NUMBERS;
+use facts::TABLES;
+use facts::follower;
+use facts::forerunner;
+use facts::has;
+use facts::list;
+use facts::number_on;
+use facts::parent;
+use rules::record::Record;
+ghost use mathlib.Core.Path.{_≡_};
+ghost use mathlib.Core.List.{[]};
+ghost use mathlib.Core.Bool.{_&&_, _||_};
+ghost use Prim.Native.Nat.{min, _<_};
+ghost use lib.Dec.{eqb};
+ghost use lib.ListN.{length, getD};
+ghost use Rattle.facts.specs.Memory.{ROOM, TABLES};
+ghost use Rattle.facts.specs.Asked.{hasIn};
+ghost use Rattle.edits.specs.Least.{NONE, place};
+ghost use Rattle.edits.specs.Memory.{ask, numberOn};
+ghost use Rattle.edits.specs.Positions.{fresh, freshAfter, freshBefore, freshBeside, claims};
+ghost use Rattle.edits.specs.Positions.{knows, unknown, keptAfter};
+
+// ---- places
+
+// No place: greater than every record.
+pub const NONE: u32 = 65536;
+
+// Ties the constant to the definition of the same name.
+pub fn none() -> u32
+    ensures { λ r. ⌜ r ≡ NONE ⌝ }
+{
+    NONE
+}
+
+pub fn smaller(a: u32, b: u32) -> u32
+    ensures { λ r. ⌜ r ≡ min a b ⌝ }
+{
+    if a < b { a } else { b }
+}
+
+// `n`, if the test says that it is a place.
+pub fn place(test: bool, n: u32) -> u32
+    ensures { λ r. ⌜ r ≡ place test n ⌝ }
+{
+    if test { n } else { NONE }
+}
+
+// ---- the tables
+
+// What the types of the lent arrays say of their lengths. It does nothing when it runs.
+pub fn side_by_side(lines: &[[u16; NUMBERS]; TABLES], facts: &[[u32; FACTS]; TABLES])
+    ensures { λ r. ⌜ (length (now (lines .entry)) ≡ TABLES) × (length (now (facts .entry)) ≡ TABLES) ⌝ }
+{
+    let s = &lines[..];
+    let u = &facts[..];
+}
+
+pub fn has_in(lines: &[[u16; NUMBERS]; TABLES], t: usize, n: u32) -> bool
+    requires { ⌜ t < TABLES ⌝ }
+    ensures { λ z. ⌜ z ≡ hasIn (getD (now (lines .entry)) t []) n ⌝ }
+{
+    has(&lines[t], n)
+}
+
+pub fn parent_in(
+    lines: &[[u16; NUMBERS]; TABLES],
+    facts: &[[u32; FACTS]; TABLES],
+    t: usize,
+    n: u32,
+) -> u32
+    requires { ⌜ t < TABLES ⌝ }
+    ensures { λ z. ⌜ z ≡ ask (now (lines .entry)) (now (facts .entry)) t .up n ⌝ }
+{
+    parent(&lines[t], &facts[t], n)
+}
+
+pub fn follower_in(
+    lines: &[[u16; NUMBERS]; TABLES],
+    facts: &[[u32; FACTS]; TABLES],
+    t: usize,
+    r: u32,
+    p: u32,
+) -> u32
+    requires { ⌜ t < TABLES ⌝ }
+    ensures { λ z. ⌜ z ≡ ask (now (lines .entry)) (now (facts .entry)) t .after r p ⌝ }
+{
+    follower(&lines[t], &facts[t], r, p)
+}
+
+pub fn forerunner_in(
+    lines: &[[u16; NUMBERS]; TABLES],
+    facts: &[[u32; FACTS]; TABLES],
+    t: usize,
+    r: u32,
+    s: u32,
+) -> u32
+    requires { ⌜ t < TABLES ⌝ }
+    ensures { λ z. ⌜ z ≡ ask (now (lines .entry)) (now (facts .entry)) t .before r s ⌝ }
+{
+    forerunner(&lines[t], &facts[t], r, s)
+}
+
+// The number on a line of a table.
+pub fn number_in(facts: &[[u32; FACTS]; TABLES], t: usize, i: usize) -> u32
+    requires { ⌜ (t < TABLES) × (i < ROOM) ⌝ }
+    ensures { λ z. ⌜ z ≡ numberOn (now (facts .entry)) t i ⌝ }
+{
+    number_on(&facts[t], i)
+}
+
+// ---- edits
+
+// Somebody stands there, and it is not whom old has there.
+pub fn fresh(o: u32, s: u32) -> bool
+    ensures { λ z. ⌜ z ≡ fresh o s ⌝ }
+{
+    if s == 0 {
+        return false;
+    }
+    s != o
+}
+
+fn fresh_after(
+    lines: &[[u16; NUMBERS]; TABLES],
+    facts: &[[u32; FACTS]; TABLES],
+    t: usize,
+    r: u32,
+    p: u32,
+) -> bool
+    requires { ⌜ t < TABLES ⌝ }
+    ensures { λ z. ⌜ z ≡ freshAfter (ask (now (lines .entry)) (now (facts .entry))) t r p ⌝ }
+{
+    let o = follower_in(lines, facts, 0, r, p);
+    let s = follower_in(lines, facts, t, r, p);
+    fresh(o, s)
+}
+
+fn fresh_before(
+    lines: &[[u16; NUMBERS]; TABLES],
+    facts: &[[u32; FACTS]; TABLES],
+    t: usize,
+    r: u32,
+    s: u32,
+) -> bool
+    requires { ⌜ t < TABLES ⌝ }
+    ensures { λ z. ⌜ z ≡ freshBefore (ask (now (lines .entry)) (now (facts .entry))) t r s ⌝ }
+{
+    let o = forerunner_in(lines, facts, 0, r, s);
+    let p = forerunner_in(lines, facts, t, r, s);
+    fresh(o, p)
+}
+
+// An edit stands at either side of `n` under `r`.
+fn fresh_beside(
+    lines: &[[u16; NUMBERS]; TABLES],
+    facts: &[[u32; FACTS]; TABLES],
+    t: usize,
+    r: u32,
+    n: u32,
+) -> bool
+    requires { ⌜ t < TABLES ⌝ }
+    ensures { λ z. ⌜ z ≡ freshBeside (ask (now (lines .entry)) (now (facts .entry))) t r n ⌝ }
+{
+    if fresh_after(lines, facts, t, r, n) {
+        return true;
+    }
+    fresh_before(lines, facts, t, r, n)
+}
+
+// An edit gives the record its parent.
+pub fn claims(
+    lines: &[[u16; NUMBERS]; TABLES],
+    facts: &[[u32; FACTS]; TABLES],
+    t: usize,
+    n: u32,
+) -> bool
+    requires { ⌜ t < TABLES ⌝ }
+    ensures { λ z. ⌜ z ≡ claims (ask (now (lines .entry)) (now (facts .entry))) t n ⌝ }
+{
+    if has_in(lines, t, n) {
+        let r = parent_in(lines, facts, t, n);
+        return fresh_beside(lines, facts, t, r, n);
+    }
+    false
+}
+
+// ---- kept facts
+
+// A record is known where it is; START and END are where the list is.
+fn knows(lines: &[u16; NUMBERS], r: u32, n: u32) -> bool
+    ensures { λ z. ⌜ z ≡ knows (hasIn (now (lines .entry))) r n ⌝ }
+{
+    let known = Record { number: n };
+    if known.is_record() {
+        return has(lines, n);
+    }
+    list(lines, r)
+}
+
+// The table knows neither `p` nor `s` under `r`.
+fn unknown(lines: &[[u16; NUMBERS]; TABLES], t: usize, r: u32, p: u32, s: u32) -> bool
+    requires { ⌜ t < TABLES ⌝ }
+    ensures { λ z. ⌜ z ≡ unknown (hasIn (getD (now (lines .entry)) t [])) r p s ⌝ }
+{
+    if knows(&lines[t], r, p) {
+        return false;
+    }
+    !knows(&lines[t], r, s)
+}
+
+// An old fact from `p` to `o` is kept so far, and table `t`, where `s` follows, keeps it too.
+fn still_kept(
+    lines: &[[u16; NUMBERS]; TABLES],
+    t: usize,
+    r: u32,
+    p: u32,
+    o: u32,
+    s: u32,
+    kept: bool,
+) -> bool
+    requires { ⌜ t < TABLES ⌝ }
+    ensures { λ z. ⌜ z ≡ (kept && (eqb s o || unknown (hasIn (getD (now (lines .entry)) t [])) r p o)) ⌝ }
+{
+    if kept {
+        if s == o {
+            return true;
+        }
+        return unknown(lines, t, r, p, o);
+    }
+    false
+}
+
+// Who follows `p` under `r` by the kept facts; 0 if no kept fact goes on. The first branch's edit, or else old's fact, if each branch has
+// it or knows neither of its ends.
+pub fn kept_after(
+    lines: &[[u16; NUMBERS]; TABLES],
+    facts: &[[u32; FACTS]; TABLES],
+    r: u32,
+    p: u32,
+) -> u32
+    ensures { λ z. ⌜ z ≡ keptAfter (ask (now (lines .entry)) (now (facts .entry))) r p ⌝ }
+{
+    let o = follower_in(lines, facts, 0, r, p);
+    let mut kept = true;
+    let mut t: usize = 1;
+    while t < TABLES {
+        let s = follower_in(lines, facts, t, r, p);
+        if fresh(o, s) {
+            return s;
+        }
+        kept = still_kept(lines, t, r, p, o, s, kept);
+        t += 1;
+    }
+    if kept { o } else { 0 }
+}
