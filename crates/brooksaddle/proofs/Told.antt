@@ -3,7 +3,7 @@
 use mathlib.Core.Path.{_≡_, refl, sym, ap, _∙_, subst}
 use mathlib.Core.Bool.{Bool, true, false, true≢false}
 use mathlib.Core.List.{List, [], _∷_}
-use Prim.Native.Nat.{ℕ, _+_, _-_, _/_, _%_, _<_, _≤_}
+use Prim.Native.Nat.{ℕ, _+_, _-_, _<_, _≤_}
 use native.Mathlib.Omega.{arith}
 use lib.Dec.{T, ltb}
 use denote.Ref.{RefT, ptr, now}
@@ -43,6 +43,33 @@ in-first text place long h g content e =
     let first : textOf place ≡ 0 = omega arith in
     let same : startOf place ≡ place = omega arith in
     (record { text = omega arith; within = rw (first, same) g }, rw (first, same) e)
+
+-- ---- a table that was read
+
+module _ (text ls fs : List ℕ) (a : Read) (w : Reads text ls fs a) (t : List Row) (q : verdict text ≡ readable t) where
+  place-of : (x : Row) → x ∈ t → field ls fs (x .number) PLACE ≡ contentAnswer text (x .number) .start
+  place-of x m = ap (λ (p : Part). p .start) (w .placed t q (x .number) (row-number t x m))
+
+  -- a place in the text
+  pub read-low : (x : Row) → x ∈ t → field ls fs (x .number) PLACE < SPAN
+  read-low x m = omega (arith, accepted-text text t q .short, part-within text t q x m, place-of x m)
+
+  -- its text holds its contents
+  pub read-stored : Stored (text ∷ []) ls fs t
+  read-stored = record {
+    readable = good-readable t (good text t q);
+    holds = w .held t q;
+    lies = λ x m. place x m .0;
+    contents = λ x m. place x m .1;
+  }
+    where
+      place : (x : Row) → x ∈ t → HasContent (text ∷ []) ls fs (x .number) × (x .content ≡ contentAt (text ∷ []) ls fs (x .number))
+      place x m =
+          let s = place-of x m in
+          let k : field ls fs (x .number) LENGTH ≡ contentAnswer text (x .number) .length =
+          ap (λ (p : Part). p .length) (w .placed t q (x .number) (row-number t x m)) in
+          in-first text _ _ (read-low x m) (omega (arith, part-within text t q x m, s, k)) (x .content)
+          (sym (part-content text t q x m) ∙ (λ i. take (sym k i) (drop (sym s i) text)))
 
 module _ (text ls fs : List ℕ) (a : Read) (w : Reads text ls fs a) where
   -- the verdict's own numbers
@@ -139,18 +166,8 @@ module _ (text ls fs : List ℕ) (a : Read) (w : Reads text ls fs a) where
     long : length (tidied t) ≡ length text
     long = tidied-length text t (table .is)
 
-    -- the table's text holds its contents
     stored : Stored (text ∷ []) ls fs t
-    stored = record { readable = ok; holds = holds; lies = λ x m. place x m .0; contents = λ x m. place x m .1 }
-      where
-        place : (x : Row) → x ∈ t → HasContent (text ∷ []) ls fs (x .number) × (x .content ≡ contentAt (text ∷ []) ls fs (x .number))
-        place x m =
-            let e = w .placed t (table .is) (x .number) (row-number t x m) in
-            let s : field ls fs (x .number) PLACE ≡ contentAnswer text (x .number) .start = ap (λ (p : Part). p .start) e in
-            let k : field ls fs (x .number) LENGTH ≡ contentAnswer text (x .number) .length = ap (λ (p : Part). p .length) e in
-            in-first text _ _ (omega (arith, accepted-text text t (table .is) .short, part-within text t (table .is) x m, s))
-            (omega (arith, part-within text t (table .is) x m, s, k)) (x .content)
-            (sym (part-content text t (table .is) x m) ∙ (λ i. take (sym k i) (drop (sym s i) text)))
+    stored = read-stored text ls fs a w t (table .is)
 
     pub tidy-short : (buffer : List ℕ) → length buffer < length text
         → Tidies text buffer (tidyTold tableTooShort 0 (length text)) buffer

@@ -4,18 +4,23 @@ use facts::FACTS;
 use facts::LENGTH;
 use facts::NUMBERS;
 use facts::PLACE;
+use facts::TABLES;
 use facts::field;
 use facts::has;
+use merge::merge_tables;
+use merge::refused;
 use rules::answers::Checked;
+use rules::answers::Merged;
 use rules::answers::Part;
 use rules::answers::Tidied;
 use rules::codes::ACCEPTED;
 use rules::codes::TABLE_TOO_SHORT;
+use table::read_all;
 use table::read_table;
 use write::write_table;
 ghost use mathlib.Core.Path.{_≡_};
 ghost use Rattle.rules.specs.Calls.{noPart, contentAnswer};
-ghost use Rattle.rules.specs.Promises.{Checks, Tidies, HandsBack};
+ghost use Rattle.rules.specs.Promises.{Checks, Tidies, HandsBack, Merges};
 
 // ---- check
 
@@ -92,6 +97,47 @@ pub extern "C" fn brooksaddle_tidy(text: &[u8], buffer: &mut [u8]) -> Tidied
     ensures { λ r. ⌜ Tidies (now (text .entry)) (now (buffer .entry)) r (now (buffer .exit)) ⌝ }
 {
     tidy(text, buffer)
+}
+
+// ---- merge
+
+// Old, first and second, merged into the two lent buffers: code, table, place, table length, ledger length.
+pub fn merge<'a>(
+    old: &'a [u8],
+    first: &'a [u8],
+    second: &'a [u8],
+    table: &mut [u8],
+    ledger: &mut [u8],
+) -> Merged
+    ensures { λ r.
+        ⌜ Merges (now (old .entry)) (now (first .entry)) (now (second .entry)) (now (table .entry)) (now (ledger .entry))
+        r (now (table .exit)) (now (ledger .exit)) ⌝ }
+{
+    let texts = [old, first, second];
+    let mut lines = [[0u16; NUMBERS]; TABLES];
+    let mut facts = [[0u32; FACTS]; TABLES];
+    let mut counts = [0usize; TABLES];
+    let read = read_all(&texts[..], &mut lines, &mut facts, &mut counts);
+    let code = read.code;
+    if code != ACCEPTED {
+        return refused(code, read.table, read.line);
+    }
+    merge_tables(&texts[..], &lines, &facts, &counts, table, ledger)
+}
+
+#[no_mangle]
+pub extern "C" fn brooksaddle_merge<'a>(
+    old: &'a [u8],
+    first: &'a [u8],
+    second: &'a [u8],
+    table: &mut [u8],
+    ledger: &mut [u8],
+) -> Merged
+    ensures { λ r.
+        ⌜ Merges (now (old .entry)) (now (first .entry)) (now (second .entry)) (now (table .entry)) (now (ledger .entry))
+        r (now (table .exit)) (now (ledger .exit)) ⌝ }
+{
+    merge(old, first, second, table, ledger)
 }
 
 // ---- content

@@ -7,3 +7,4 @@ pub mod Clashing
 pub mod Keeping
 pub mod Best
 pub mod Leasts
+pub mod Tables

@@ -4,15 +4,13 @@
 use mathlib.Core.Path.{_≡_, refl, sym, ap, _∙_, subst}
 use mathlib.Core.Logic.{_⊎_, inl, inr}
 use mathlib.Core.Bool.{cond}
-use mathlib.Core.List.{List, [], _∷_, _++_, map-append, List·Memᴰ·head as here, List·Memᴰ·tail as there, Memᴰ·cast}
-use mathlib.Core.List.{Memᴰ·append-left, Memᴰ·append-right, List·Memᴰ·append-cases, List·Memᴰ·eq-of-singleton}
+use mathlib.Core.List.{List, [], _∷_, _++_, List·Memᴰ·head as here, List·Memᴰ·tail as there, Memᴰ·cast}
 use Prim.Native.Nat.{ℕ, _<_, _≤_, _+_, _*_}
 use native.Mathlib.Omega.{arith}
 use native.Mathlib.Decide.{ℕ-discrete}
 use lib.ListN.{getD, set, length, length-set, length-append}
 use lib.Seq.{getD-set-same, getD-set-other}
-use lib.Dec.{T, eqb, ltb, eqb→eq}
-use mir.Facts.{no-eqb}
+use lib.Dec.{T, ltb}
 use borrow.Author.Tests.{lt-ltb}
 use Rattle.rules.specs.Lists.{_∈_}
 use Rattle.rules.specs.Marks.{TOP, START, END, isRecord}
@@ -21,18 +19,17 @@ use Rattle.rules.specs.Line.{Row}
 use Rattle.rules.specs.Table.{numbers}
 use Rattle.rules.specs.Tree.{childNumbers}
 use Rattle.rules.specs.Demands.{Readable}
-use Rattle.trees.proofs.Lists.{keep-none}
-use Rattle.trees.proofs.Marks.{record-low, record-high}
-use Rattle.trees.proofs.Disagreeing.{numberOf}
+use Rattle.trees.proofs.Marks.{record-high}
 use Rattle.trees.proofs.OneTable.{child-number, child-record}
-use Rattle.trees.proofs.LineByLine.{children-more, children-same}
+use Rattle.trees.proofs.LineByLine.{children-more}
 use Rattle.facts.specs.Memory.{NUMBERS, ROOM, WIDTH, NUMBER, PARENT, FORERUNNER, FOLLOWER, FIRST, LAST, PLACE, LENGTH}
 use Rattle.facts.specs.Memory.{lineAt, field, who, way, laid, addLine, addFacts}
 use Rattle.facts.specs.Holds.{Strung, Holds, partAt}
 use Rattle.facts.proofs.Laying.{laid-in, laid-before, laid-length}
 use Rattle.facts.proofs.Strings.{Aside, Grown, Hung, way-is, known-who, aside-same, strung-end, strung-last, grown, framed}
 use Rattle.facts.proofs.Strings.{started}
-use Rattle.facts.proofs.Shown.{number-row, row-parent, row-parent-field}
+use Rattle.facts.proofs.Shown.{number-row, row-parent, row-parent-field, top-line}
+use Rattle.facts.proofs.OneMore.{childless, children-other, known-cases, not-new, number-cases, number-new, number-old}
 
 -- two places in the array are one only if line and field are
 same-line : (i j a b : ℕ) → a < WIDTH → b < WIDTH → i * WIDTH + a ≡ j * WIDTH + b → i ≡ j
@@ -46,7 +43,9 @@ pub record Added (ls fs ls′ fs′ : List ℕ) (t : List Row) (y : Row) (start 
   pub holds : Holds ls′ fs′ (t ++ (y ∷ []))
   pub part-new : partAt ls′ fs′ (y .number) ≡ record { start = start; length = long }
   pub part-same : (m : ℕ) → m ∈ numbers t → partAt ls′ fs′ m ≡ partAt ls fs m
+  pub line-new : lineAt ls′ (y .number) ≡ length t + 1
   pub lines-same : (m : ℕ) → (m ≡ y .number → ⊥) → lineAt ls′ m ≡ lineAt ls m
+  pub numbers-same : (i : ℕ) → i ≤ length t → getD fs′ (i * WIDTH + NUMBER) 0 ≡ getD fs (i * WIDTH + NUMBER) 0
   pub all-lines : length ls′ ≡ length ls
   pub all-facts : length fs′ ≡ length fs
 
@@ -78,10 +77,6 @@ module _ (ls fs : List ℕ) (t : List Row) (y : Row) (l start long : ℕ) (h : H
 
   -- ---- lines
 
-  not-new : (m : ℕ) → Known m → m ≡ n → ⊥
-  not-new m (here e) d = omega (arith, record-low n record-y)
-  not-new m (there k) d = new (Memᴰ·cast (sym d) k)
-
   pub line-other : (m : ℕ) → (m ≡ n → ⊥) → lineAt ls′ m ≡ lineAt ls m
   line-other m ne = ap (λ (v : ℕ). cond (ltb v ROOM) v 0) (getD-set-other ls n m l 0 ne)
 
@@ -94,7 +89,7 @@ module _ (ls fs : List ℕ) (t : List Row) (y : Row) (l start long : ℕ) (h : H
   lines-kept = length-set ls n l
 
   line-known : (m : ℕ) → Known m → lineAt ls′ m ≡ lineAt ls m
-  line-known m k = line-other m (not-new m k)
+  line-known m k = line-other m (not-new t y ok record-y new m k)
 
   line-low : (m : ℕ) → Known m → lineAt ls′ m ≤ length t
   line-low m k = omega (arith, line-known m k, h .few m)
@@ -212,8 +207,8 @@ module _ (ls fs : List ℕ) (t : List Row) (y : Row) (l start long : ℕ) (h : H
   side-same : (m k : ℕ) → Known m → k < WIDTH → Aside k → field ls′ fs′ m k ≡ field ls fs m k
   side-same = aside-same (field ls fs) (field ls′ fs′) Known n r p grows
 
-  number-new : field ls′ fs′ n NUMBER ≡ n
-  number-new = field-new NUMBER n (omega arith) (laid-at NUMBER (omega arith))
+  named-new : field ls′ fs′ n NUMBER ≡ n
+  named-new = field-new NUMBER n (omega arith) (laid-at NUMBER (omega arith))
 
   pub parent-new : field ls′ fs′ n PARENT ≡ r
   parent-new = grows .parent
@@ -243,24 +238,7 @@ module _ (ls fs : List ℕ) (t : List Row) (y : Row) (l start long : ℕ) (h : H
 
   -- ---- rows
 
-  numbers-more : numbers t′ ≡ numbers t ++ (n ∷ [])
-  numbers-more = map-append numberOf t (y ∷ [])
-
-  number-old : (m : ℕ) → m ∈ numbers t → m ∈ numbers t′
-  number-old m k = subst (λ (z : List ℕ). m ∈ z) (sym numbers-more) (Memᴰ·append-left (n ∷ []) k)
-
-  number-cases : (m : ℕ) → m ∈ numbers t′ → (m ∈ numbers t) ⊎ (m ≡ n)
-  number-cases m k =
-      elim (List·Memᴰ·append-cases (numbers t) (subst (λ (z : List ℕ). m ∈ z) numbers-more k)) [
-        | inl i ↦ inl i
-        | inr i ↦ inr (List·Memᴰ·eq-of-singleton i)
-      ]
-
-  known-cases : (m : ℕ) → m ∈ TOP ∷ numbers t′ → Known m ⊎ (m ≡ n)
-  known-cases m (here e) = inl (here e)
-  known-cases m (there k) = elim (number-cases m k) [ inl i ↦ inl (there i) | inr e ↦ inr e ]
-
-  -- nobody's parent is the new record
+  -- a parent's field names the top or a number that is there
   parent-known : (m : ℕ) → m ∈ numbers t → Known (field ls fs m PARENT)
   parent-known m k =
       let w = number-row t m k in
@@ -268,21 +246,12 @@ module _ (ls fs : List ℕ) (t : List Row) (y : Row) (l start long : ℕ) (h : H
       ap (λ (z : ℕ). field ls fs z PARENT) (sym (w .2)) ∙ row-parent-field ls fs t h ok (w .0) (w .1) in
       Memᴰ·cast e (row-parent t ok (w .0) (w .1))
 
-  -- so it has no child yet
-  childless : childNumbers n t ≡ []
-  childless =
-      ap numbers (keep-none (λ (x : Row). eqb (x .parent) n) t
-      (λ x m e. not-new (x .parent) (row-parent t ok x m) (eqb→eq (x .parent) n e)))
-
-  children-other : (q : ℕ) → (q ≡ r → ⊥) → childNumbers q t′ ≡ childNumbers q t
-  children-other q ne = children-same t y q (no-eqb (λ e. ne (sym e)))
-
   -- ---- memory holds them
 
   strings : (q : ℕ) → Known q ⊎ (q ≡ n) → Strung (field ls′ fs′) q START (childNumbers q t′)
   strings q (inr e) =
       subst (λ (z : ℕ). Strung (field ls′ fs′) z START (childNumbers z t′)) (sym e)
-      (subst (Strung (field ls′ fs′) n START) (sym (children-other n (λ d. not-new r under (sym d)) ∙ childless))
+      (subst (Strung (field ls′ fs′) n START) (sym (childless t y ok record-y new under))
       (started (field ls fs) (field ls′ fs′) Known n r p grows under record-y))
   strings q (inl k) = go (ℕ-discrete q r)
     where
@@ -293,21 +262,21 @@ module _ (ls fs : List ℕ) (t : List Row) (y : Row) (l start long : ℕ) (h : H
           (grown (field ls fs) (field ls′ fs′) Known n r p grows under record-y START (childNumbers r t) strung-r shut (sym last-is)
           (inl refl) (child-known r)))
       go (no e) =
-          subst (Strung (field ls′ fs′) q START) (sym (children-other q e))
+          subst (Strung (field ls′ fs′) q START) (sym (children-other t y q e))
           (framed (field ls fs) (field ls′ fs′) Known n r p grows under record-y q k e hung START (childNumbers q t) (h .strung q k)
           (inl refl) (inl refl) (child-known q))
 
   names : (m : ℕ) → Known m ⊎ (m ≡ n) → field ls′ fs′ m NUMBER ≡ m
   names m (inl k) = side-same m NUMBER k (omega arith) (inl (omega arith)) ∙ h .named m k
-  names m (inr e) = ap (λ (z : ℕ). field ls′ fs′ z NUMBER) e ∙ number-new ∙ sym e
+  names m (inr e) = ap (λ (z : ℕ). field ls′ fs′ z NUMBER) e ∙ named-new ∙ sym e
 
   has-line : (m : ℕ) → (m ∈ numbers t) ⊎ (m ≡ n) → 0 < lineAt ls′ m
   has-line m (inl k) = omega (arith, line-known m (there k), h .known m k)
   has-line m (inr e) = subst (λ (z : ℕ). 0 < lineAt ls′ z) (sym e) (omega (arith, line-new))
 
   line-has : (m : ℕ) → 0 < lineAt ls′ m → Dec (m ≡ n) → m ∈ numbers t′
-  line-has m low (yes e) = subst (λ (z : List ℕ). m ∈ z) (sym numbers-more) (Memᴰ·append-right (numbers t) (here e))
-  line-has m low (no e) = number-old m (h .only m (omega (arith, line-other m e)))
+  line-has m low (yes e) = number-new t y m e
+  line-has m low (no e) = number-old t y m (h .only m (omega (arith, line-other m e)))
 
   more : length t′ ≡ length t + 1
   more = length-append t (y ∷ [])
@@ -315,16 +284,6 @@ module _ (ls fs : List ℕ) (t : List Row) (y : Row) (l start long : ℕ) (h : H
   line-few : (m : ℕ) → Dec (m ≡ n) → lineAt ls′ m ≤ length t′
   line-few m (yes e) = subst (λ (z : ℕ). lineAt ls′ z ≤ length t′) (sym e) (omega (arith, line-new, more))
   line-few m (no e) = omega (arith, line-other m e, h .few m, more)
-
-  -- the top is on line 0
-  top-line : lineAt ls TOP ≡ 0
-  top-line = go (ℕ-discrete (lineAt ls TOP) 0)
-    where
-      go : Dec (lineAt ls TOP ≡ 0) → lineAt ls TOP ≡ 0
-      go (yes e) = e
-      go (no e) =
-          let w = number-row t TOP (h .only TOP (omega arith)) in
-          absurd (subst (λ (m : ℕ). T (isRecord m)) (w .2) (ok .distinct .valid (w .0) (w .1)))
 
   number-same : (i : ℕ) → i ≤ length t → getD fs′ (i * WIDTH + NUMBER) 0 ≡ getD fs (i * WIDTH + NUMBER) 0
   number-same i low =
@@ -336,12 +295,12 @@ module _ (ls fs : List ℕ) (t : List Row) (y : Row) (l start long : ℕ) (h : H
   absent i low e (no z) = new (Memᴰ·cast (sym e) (h .only (getD fs (i * WIDTH + NUMBER) 0) (omega (arith, h .lined i low))))
   absent i low e (yes z) =
       let d : getD fs (i * WIDTH + NUMBER) 0 ≡ TOP =
-      ap (λ (j : ℕ). getD fs (j * WIDTH + NUMBER) 0) (z ∙ sym top-line) ∙ h .named TOP (here refl) in
-      not-new n (here (sym e ∙ d)) refl
+      ap (λ (j : ℕ). getD fs (j * WIDTH + NUMBER) 0) (z ∙ sym (top-line ls fs t h ok)) ∙ h .named TOP (here refl) in
+      not-new t y ok record-y new n (here (sym e ∙ d)) refl
 
   on-line : (i : ℕ) → i ≤ length t′ → Dec (i ≡ l) → lineAt ls′ (getD fs′ (i * WIDTH + NUMBER) 0) ≡ i
   on-line i low (yes e) =
-      ap (λ (j : ℕ). lineAt ls′ (getD fs′ (j * WIDTH + NUMBER) 0)) (e ∙ sym line-new) ∙ ap (lineAt ls′) number-new ∙ line-new ∙ sym e
+      ap (λ (j : ℕ). lineAt ls′ (getD fs′ (j * WIDTH + NUMBER) 0)) (e ∙ sym line-new) ∙ ap (lineAt ls′) named-new ∙ line-new ∙ sym e
   on-line i low (no e) =
       let d : i ≤ length t = omega (arith, more) in
       ap (lineAt ls′) (number-same i d)
@@ -359,13 +318,13 @@ module _ (ls fs : List ℕ) (t : List Row) (y : Row) (l start long : ℕ) (h : H
   pub add-holds : Holds ls′ fs′ (t ++ (y ∷ []))
   add-holds =
       record {
-        strung = λ q k. strings q (known-cases q k);
-        named = λ m k. names m (known-cases m k);
-        known = λ m k. has-line m (number-cases m k);
+        strung = λ q k. strings q (known-cases t y q k);
+        named = λ m k. names m (known-cases t y m k);
+        known = λ m k. has-line m (number-cases t y m k);
         only = λ m low. line-has m low (ℕ-discrete m n);
         few = λ m. line-few m (ℕ-discrete m n);
         lined = λ i low. on-line i low (ℕ-discrete i l);
-        earlier = λ m k. parent-earlier m (number-cases m k);
+        earlier = λ m k. parent-earlier m (number-cases t y m k);
       }
 
   pub added : Added ls fs ls′ fs′ t y start long
@@ -373,7 +332,9 @@ module _ (ls fs : List ℕ) (t : List Row) (y : Row) (l start long : ℕ) (h : H
     holds = add-holds;
     part-new = add-part-new;
     part-same = add-part-same;
+    line-new = line-new ∙ next;
     lines-same = line-other;
+    numbers-same = number-same;
     all-lines = lines-kept;
     all-facts = facts-kept;
   }

@@ -6,5 +6,6 @@ pub mod Laying
 pub mod Strings
 pub mod Views
 pub mod Shown
+pub mod OneMore
 pub mod Adding
 pub mod Fresh

@@ -46,7 +46,7 @@ not-end n i e = omega (arith, record-high n i)
 -- ---- the facts of one list
 
 -- the last one
-list-end : (r p : ℕ) (ns : List ℕ) → position r (last p ns) END ∈ listFacts r p ns
+pub list-end : (r p : ℕ) (ns : List ℕ) → position r (last p ns) END ∈ listFacts r p ns
 list-end r p [] = here refl
 list-end r p (n ∷ ns) = there (list-end r n ns)
 
@@ -61,7 +61,7 @@ list-forerunner r p s (n ∷ ns) (there m) = let w = list-forerunner r n s ns m 
 pub number-row : (t : List Row) (n : ℕ) → n ∈ numbers t → (x : Row) × (x ∈ t) × (x .number ≡ n)
 number-row t n m = let w = Memᴰ·of-map numberOf t m in (w .0, w .1, w .2)
 
-fact-parent : (t : List Row) (a : PositionFact) → a ∈ factsOf t .positions → a .parent ∈ TOP ∷ numbers t
+pub fact-parent : (t : List Row) (a : PositionFact) → a ∈ factsOf t .positions → a .parent ∈ TOP ∷ numbers t
 fact-parent t a m =
     let w = list-of t a m in
     Memᴰ·cast (list-parent (w .0) START (childNumbers (w .0) t) a (w .2)) (w .1)
@@ -91,6 +91,16 @@ module _ (ls fs : List ℕ) (t : List Row) (h : Holds ls fs t) (ok : Readable t)
 
   -- ---- who is there
 
+  -- the top is on line 0
+  pub top-line : lineAt ls TOP ≡ 0
+  top-line = go (ℕ-discrete (lineAt ls TOP) 0)
+    where
+      go : Dec (lineAt ls TOP ≡ 0) → lineAt ls TOP ≡ 0
+      go (yes e) = e
+      go (no e) =
+          let w = number-row t TOP (h .only TOP (omega arith)) in
+          absurd (subst (λ (m : ℕ). T (isRecord m)) (w .2) (ok .distinct .valid (w .0) (w .1)))
+
   has-yes : (n : ℕ) → n ∈ numbers t → T (hasIn ls n)
   has-yes n m = lt→ltb 0 (lineAt ls n) (h .known n m)
 
@@ -101,7 +111,7 @@ module _ (ls fs : List ℕ) (t : List Row) (h : Holds ls fs t) (ok : Readable t)
   list-yes r (here e) = or-left (eqb r TOP) (hasIn ls r) (yes-eqb e)
   list-yes r (there m) = or-right (eqb r TOP) (hasIn ls r) (has-yes r m)
 
-  yes-list : (r : ℕ) → T (listIn ls r) → Parent r
+  pub yes-list : (r : ℕ) → T (listIn ls r) → r ∈ TOP ∷ numbers t
   yes-list r i = elim (or-yes (eqb r TOP) (hasIn ls r) i) [ inl e ↦ here (eqb→eq r TOP e) | inr k ↦ there (yes-has r k) ]
 
   child-yes : (r n : ℕ) → Parent r → n ∈ children r → T (childIn ls fs r n)

@@ -50,7 +50,8 @@ module _ {q : Asked} {fs : List PositionFact} (v : View q fs) where
       Memᴰ·cast (λ i. position (a .parent) (sym e i) (a .after))
       (v .from-before (a .parent) (a .after) (subst (λ (n : ℕ). 0 < n) (sym e) h))
 
-  pub given-up : (a : PositionFact) → a ∈ fs → (g : ParentGiven) → g ∈ parentsGiven a → T (q .has (g .number)) × (q .up (g .number) ≡ g .parent)
+  pub given-up : (a : PositionFact) → a ∈ fs → (g : ParentGiven) → g ∈ parentsGiven a → T (q .has (g .number)) ×
+      (q .up (g .number) ≡ g .parent)
   given-up a m g i = let w = given-out g a i in let u = v .owner a m (g .number) (w .1) (w .2) in (u .0, u .1 ∙ sym (w .0))
 
   -- one table's facts do not disagree

@@ -1,2 +1,3 @@
--- What reading a table answers and leaves in memory.
+-- What reading a table, and what reading all of them, answers and leaves in memory.
 pub mod Read
+pub mod All

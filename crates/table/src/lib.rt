@@ -1,4 +1,5 @@
-// A whole table, read into memory: line after line, each split off and judged by what memory knows of the lines before it.
+// A whole table, read into memory: line after line, each split off and judged by what memory knows of the lines before it. And tables side
+// by side, read in order.
 use facts::FACTS;
 use facts::NUMBERS;
 use facts::TABLES;
@@ -18,16 +19,27 @@ use rules::limits::BYTES;
 use rules::limits::LINES;
 use text::ended;
 use text::ends;
+use text::text_of;
 ghost use mathlib.Core.Path.{_≡_};
+ghost use mathlib.Core.List.{map};
+ghost use Prim.Native.Nat.{ℕ, _<_};
 ghost use lib.ListN.{length};
 ghost use Rattle.facts.specs.Memory.{TABLES, noLines, noFacts};
 ghost use Rattle.table.specs.Read.{told, faultIn, Begins, Reads, Unread, Fills};
+ghost use Rattle.table.specs.All.{ReadsAll};
 
 // What reading tells: code, line, count of records.
 pub struct Read {
     pub code: u32,
     pub line: u32,
     pub count: usize,
+}
+
+// The first refused table: code, table, line. All 0 where every table was read.
+pub struct Refusal {
+    pub code: u32,
+    pub table: u32,
+    pub line: u32,
 }
 
 fn refused(code: u32, line: u32) -> Read
@@ -122,4 +134,44 @@ pub fn read_into(
 {
     side_by_side(lines, facts);
     read_table(text, &mut lines[t], &mut facts[t])
+}
+
+// What the type of the lent counts says of their number. It does nothing when it runs.
+fn one_each(counts: &[usize; TABLES])
+    ensures { λ r. ⌜ length (now (counts .entry)) ≡ TABLES ⌝ }
+{
+    let s = &counts[..];
+}
+
+// Reads the texts in order, each into its place, and stops at the first refused one.
+pub fn read_all<'a>(
+    texts: &[&'a [u8]],
+    lines: &mut [[u16; NUMBERS]; TABLES],
+    facts: &mut [[u32; FACTS]; TABLES],
+    counts: &mut [usize; TABLES],
+) -> Refusal
+    requires { ⌜ (length (now texts) ≡ TABLES) × ((t : ℕ) → t < TABLES → Unread (now lines) (now facts) t) ⌝ }
+    ensures { λ z. ⌜ ReadsAll (map now (now (texts .entry))) (now (lines .exit)) (now (facts .exit)) (now (counts .exit)) z ⌝ }
+{
+    one_each(counts);
+    let mut t: usize = 0;
+    while t < TABLES {
+        let text = text_of(texts, t);
+        let read = read_into(text, lines, facts, t);
+        let code = read.code;
+        if code != ACCEPTED {
+            return Refusal {
+                code,
+                table: (t + 1) as u32,
+                line: read.line,
+            };
+        }
+        counts[t] = read.count;
+        t += 1;
+    }
+    Refusal {
+        code: ACCEPTED,
+        table: 0,
+        line: 0,
+    }
 }

@@ -1,9 +1,10 @@
-// The bytes of a text, read: runs of plain bytes, decimals, ends of lines.
+// The bytes of a text, read: runs of plain bytes, decimals, ends of lines; and one of some texts.
 use rules::limits::GREATEST;
 ghost use mathlib.Core.Bool.{_&&_};
+ghost use mathlib.Core.List.{[], map};
 ghost use mathlib.Core.Path.{_≡_};
-ghost use Prim.Native.Nat.{_+_, _-_};
-ghost use lib.ListN.{drop};
+ghost use Prim.Native.Nat.{_+_, _-_, _<_};
+ghost use lib.ListN.{length, getD, drop};
 ghost use Rattle.rules.specs.Text.{LF as lineFeed, count, ended as endedOf};
 ghost use Rattle.text.specs.Reads.{byteAt, plain as plainOf, plainRun, fourPlain, digitsFrom, opens, numberAt};
 
@@ -176,4 +177,12 @@ pub fn ends(s: &[u8]) -> usize
         i += 1;
     }
     n
+}
+
+// One of the texts.
+pub fn text_of<'a>(texts: &[&'a [u8]], k: usize) -> &'a [u8]
+    requires { ⌜ k < length (now texts) ⌝ }
+    ensures { λ r. ⌜ now r ≡ getD (map now (now (texts .entry))) k [] ⌝ }
+{
+    texts[k]
 }

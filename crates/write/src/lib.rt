@@ -11,10 +11,11 @@ use facts::SPAN;
 use facts::TEXTS;
 use facts::field;
 use rules::record::Record;
+use text::text_of;
 ghost use mathlib.Core.Path.{_≡_};
-ghost use mathlib.Core.List.{[], map};
-ghost use Prim.Native.Nat.{_+_, _<_, _≤_};
-ghost use lib.ListN.{length, getD};
+ghost use mathlib.Core.List.{map};
+ghost use Prim.Native.Nat.{_+_, _≤_};
+ghost use lib.ListN.{length};
 ghost use Rattle.rules.specs.Written.{line};
 ghost use Rattle.bytes.specs.Put.{Put};
 ghost use Rattle.write.specs.Stored.{partIn, Lies, HasContent};
@@ -24,14 +25,6 @@ ghost use Rattle.write.specs.Writing.{rowAt, ListReady, RecordReady, Lis
 pub struct Progress {
     pub at: usize,
     pub left: usize,
-}
-
-// One of the texts.
-fn text_of<'a>(texts: &[&'a [u8]], k: usize) -> &'a [u8]
-    requires { ⌜ k < length (now texts) ⌝ }
-    ensures { λ r. ⌜ now r ≡ getD (map now (now (texts .entry))) k [] ⌝ }
-{
-    texts[k]
 }
 
 // So many bytes from a place in the texts on.

@@ -5,7 +5,7 @@ use Rattle.write.proofs.part.Statement.{statement}
 use Rattle.write.proofs.part.Tie as tie
 use Rattle.write.proofs.part.Reads as reads
 use Rattle.write.proofs.part.Lts as lts
-use Rattle.write.proofs.text_of.Reads as text-of-reads
+use Rattle.text.proofs.text_of.Reads as text-of-reads
 
 -- src/lib.rt:43:31
 cast-text-of : tie.Need-cast-text-of

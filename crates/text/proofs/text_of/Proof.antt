@@ -1,10 +1,10 @@
--- The proof of `text_of`: the part that a place tells (Parts). Assumes nothing.
-use Rattle.write.proofs.Parts.{parts}
+-- The proof of `text_of`: a law of Texts. Assumes nothing.
+use Rattle.text.proofs.Texts.{texts}
 use borrow.Author.Needs.{needs}
-use Rattle.write.proofs.text_of.Statement.{statement}
-use Rattle.write.proofs.text_of.Tie as tie
-use Rattle.write.proofs.text_of.Reads as reads
-use Rattle.write.proofs.text_of.Lts as lts
+use Rattle.text.proofs.text_of.Statement.{statement}
+use Rattle.text.proofs.text_of.Tie as tie
+use Rattle.text.proofs.text_of.Reads as reads
+use Rattle.text.proofs.text_of.Lts as lts
 
 -- src/lib.rt:35:5
 mul-result : tie.Need-mul-result
@@ -16,7 +16,7 @@ shared-slice-copy-out-result c = search needs
 
 -- src/lib.rt:31:1
 returns : tie.Need-returns
-returns c = search parts
+returns c = search texts
 
 pub text-of-spec : {M : Type 1} → statement M
 text-of-spec = tie.close (tie.spec mul-result shared-slice-copy-out-result returns)

@@ -1,0 +1,4 @@
+-- Contents of the tables side by side: edits, clashes, and where the kept content lies.
+pub mod Contents
+pub mod Memory
+pub mod Tables

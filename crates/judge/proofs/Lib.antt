@@ -1,0 +1,3 @@
+-- That the judgement is the rules'.
+pub mod Chain
+pub mod Judging

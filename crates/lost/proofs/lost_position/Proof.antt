@@ -1,0 +1,59 @@
+-- The proof of `lost_position`: the lesser of two places. Assumes nothing.
+use denote.Ref.{now}
+use Rattle.facts.specs.Asked.{asked}
+use Rattle.edits.specs.Memory.{ask}
+use Rattle.lost.proofs.Ways.{position-is}
+use borrow.Author.Needs.{needs}
+use Rattle.lost.proofs.lost_position.Statement.{statement}
+use Rattle.lost.proofs.lost_position.Tie as tie
+use Rattle.lost.proofs.lost_position.Reads as reads
+use Rattle.lost.proofs.lost_position.Lts as lts
+use Rattle.edits.proofs.parent_in.Reads as parent-in-reads
+use Rattle.edits.proofs.place.Reads as place-reads
+use Rattle.edits.proofs.smaller.Reads as smaller-reads
+use Rattle.lost.proofs.lost_after.Reads as lost-after-reads
+
+-- src/lib.rt:61:9
+parent-in-requires : tie.Need-parent-in-requires
+parent-in-requires c κs = search needs
+
+-- src/lib.rt:62:9
+lost-after-requires : tie.Need-lost-after-requires
+lost-after-requires c κs = search needs
+
+-- src/lib.rt:63:9
+lost-after-requires-2 : tie.Need-lost-after-requires-2
+lost-after-requires-2 c κs = search needs
+
+-- src/lib.rt:64:9
+place-requires : tie.Need-place-requires
+place-requires c κs = search needs
+
+-- src/lib.rt:65:9
+place-requires-2 : tie.Need-place-requires-2
+place-requires-2 c κs = search needs
+
+-- src/lib.rt:66:5
+smaller-requires : tie.Need-smaller-requires
+smaller-requires c κs = search needs
+
+-- src/lib.rt:50:1
+returns : tie.Need-returns
+returns c =
+    let s = c .before .before .before .before .before .before .args in
+    position-is (ask (now (s .lines)) (now (s .facts))) (asked (now (s .ls)) (now (s .fs))) _ _ _ _ _ _ _ _
+    (c .before .before .before .before .before .parent-in .ensures) (c .before .before .before .before .lost-after .ensures)
+    (c .before .before .before .lost-after2 .ensures) (c .before .before .place .ensures) (c .before .place2 .ensures)
+    (c .smaller .ensures)
+
+pub lost-position-spec : {M : Type 1} → statement M
+lost-position-spec =
+    tie.close
+    (tie.spec
+    parent-in-requires
+    lost-after-requires
+    lost-after-requires-2
+    place-requires
+    place-requires-2
+    smaller-requires
+    returns)

@@ -1,0 +1,2 @@
+-- Lost edits.
+pub mod Lost

@@ -1,0 +1,157 @@
+// 25: edits that the merged table lacks, and the least record or parent of one, by a fixed number of questions on each line of each branch.
+// `ls` and `fs` are the arrays of the merged table; n is a record, r a parent, p the one before, t a table, i a line.
+use contents::fresh_content;
+use edits::NONE;
+use edits::follower_in;
+use edits::fresh;
+use edits::number_in;
+use edits::parent_in;
+use edits::place;
+use edits::smaller;
+use facts::FACTS;
+use facts::NUMBERS;
+use facts::TABLES;
+use facts::follower;
+use facts::has;
+use rules::record::Record;
+ghost use mathlib.Core.Path.{_≡_};
+ghost use mathlib.Core.List.{map};
+ghost use Prim.Native.Nat.{ℕ, _<_};
+ghost use lib.ListN.{length, getD};
+ghost use Rattle.facts.specs.Memory.{ROOM, TABLES};
+ghost use Rattle.facts.specs.Asked.{hasIn, asked};
+ghost use Rattle.edits.specs.Memory.{ask};
+ghost use Rattle.contents.specs.Memory.{tell};
+ghost use Rattle.lost.specs.Lost.{lostAfter, lostPosition, lostContent, lostOn, lostIn, allLost};
+
+// The edit of who follows `p` under `r` is lost.
+fn lost_after(
+    lines: &[[u16; NUMBERS]; TABLES],
+    facts: &[[u32; FACTS]; TABLES],
+    ls: &[u16; NUMBERS],
+    fs: &[u32; FACTS],
+    t: usize,
+    r: u32,
+    p: u32,
+) -> bool
+    requires { ⌜ t < TABLES ⌝ }
+    ensures { λ z. ⌜ z ≡ lostAfter (ask (now (lines .entry)) (now (facts .entry))) (asked (now (ls .entry)) (now (fs .entry))) t r p ⌝ }
+{
+    let o = follower_in(lines, facts, 0, r, p);
+    let s = follower_in(lines, facts, t, r, p);
+    if fresh(o, s) {
+        let m = follower(ls, fs, r, p);
+        return s != m;
+    }
+    false
+}
+
+// The lesser parent of a lost edit behind the record, or at the start of its own list.
+fn lost_position(
+    lines: &[[u16; NUMBERS]; TABLES],
+    facts: &[[u32; FACTS]; TABLES],
+    ls: &[u16; NUMBERS],
+    fs: &[u32; FACTS],
+    t: usize,
+    n: u32,
+) -> u32
+    requires { ⌜ t < TABLES ⌝ }
+    ensures { λ z. ⌜ z ≡ lostPosition (ask (now (lines .entry)) (now (facts .entry))) (asked (now (ls .entry)) (now (fs .entry))) t n ⌝ }
+{
+    let r = parent_in(lines, facts, t, n);
+    let behind = lost_after(lines, facts, ls, fs, t, r, n);
+    let first = lost_after(lines, facts, ls, fs, t, n, Record::START.number);
+    let a = place(behind, r);
+    let b = place(first, n);
+    smaller(a, b)
+}
+
+// The record, if its new content is lost with it. A record that is there has it, for no two contents clash.
+fn lost_content<'a>(
+    texts: &[&'a [u8]],
+    lines: &[[u16; NUMBERS]; TABLES],
+    facts: &[[u32; FACTS]; TABLES],
+    ls: &[u16; NUMBERS],
+    t: usize,
+    n: u32,
+) -> u32
+    requires { ⌜ (t < TABLES) × (length (now texts) ≡ TABLES) ⌝ }
+    ensures { λ z.
+        ⌜ z ≡ lostContent (tell (map now (now (texts .entry))) (now (lines .entry)) (now (facts .entry))) (hasIn (now (ls .entry))) t n ⌝ }
+{
+    if has(ls, n) {
+        return NONE;
+    }
+    let test = fresh_content(texts, lines, facts, t, n);
+    place(test, n)
+}
+
+// What shows at the record on a line.
+fn lost_on<'a>(
+    texts: &[&'a [u8]],
+    lines: &[[u16; NUMBERS]; TABLES],
+    facts: &[[u32; FACTS]; TABLES],
+    ls: &[u16; NUMBERS],
+    fs: &[u32; FACTS],
+    t: usize,
+    i: usize,
+) -> u32
+    requires { ⌜ (t < TABLES) × (i < ROOM) × (length (now texts) ≡ TABLES) ⌝ }
+    ensures { λ z.
+        ⌜ z ≡ lostOn (map now (now (texts .entry))) (now (lines .entry)) (now (facts .entry))
+        (now (ls .entry)) (now (fs .entry)) t i ⌝ }
+{
+    let n = number_in(facts, t, i);
+    let a = lost_position(lines, facts, ls, fs, t, n);
+    let b = lost_content(texts, lines, facts, ls, t, n);
+    smaller(a, b)
+}
+
+// On all lines of a branch with so many records.
+fn lost_in<'a>(
+    texts: &[&'a [u8]],
+    lines: &[[u16; NUMBERS]; TABLES],
+    facts: &[[u32; FACTS]; TABLES],
+    ls: &[u16; NUMBERS],
+    fs: &[u32; FACTS],
+    t: usize,
+    count: usize,
+) -> u32
+    requires { ⌜ (t < TABLES) × (count < ROOM) × (length (now texts) ≡ TABLES) ⌝ }
+    ensures { λ z.
+        ⌜ z ≡ lostIn (map now (now (texts .entry))) (now (lines .entry)) (now (facts .entry))
+        (now (ls .entry)) (now (fs .entry)) t count ⌝ }
+{
+    let mut least = NONE;
+    let mut i: usize = 0;
+    while i <= count {
+        let at = lost_on(texts, lines, facts, ls, fs, t, i);
+        least = smaller(least, at);
+        i += 1;
+    }
+    least
+}
+
+// In all branches, with so many records each.
+pub fn least_lost<'a>(
+    texts: &[&'a [u8]],
+    lines: &[[u16; NUMBERS]; TABLES],
+    facts: &[[u32; FACTS]; TABLES],
+    counts: &[usize; TABLES],
+    ls: &[u16; NUMBERS],
+    fs: &[u32; FACTS],
+) -> u32
+    requires { ⌜ ((k : ℕ) → k < TABLES → getD (now counts) k 0 < ROOM) × (length (now texts) ≡ TABLES) ⌝ }
+    ensures { λ z.
+        ⌜ z ≡ allLost (map now (now (texts .entry))) (now (lines .entry)) (now (facts .entry))
+        (now (ls .entry)) (now (fs .entry)) (now (counts .entry)) ⌝ }
+{
+    let mut least = NONE;
+    let mut t: usize = 1;
+    while t < TABLES {
+        let in_branch = lost_in(texts, lines, facts, ls, fs, t, counts[t]);
+        least = smaller(least, in_branch);
+        t += 1;
+    }
+    least
+}

@@ -1,0 +1,2 @@
+-- That the merge of tables in memory is that of the rules.
+pub mod Merging

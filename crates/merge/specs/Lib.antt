@@ -1,0 +1,2 @@
+-- What merging tables that were read does.
+pub mod Merging

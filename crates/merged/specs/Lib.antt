@@ -1,0 +1,3 @@
+-- The merged tree laid down as one more table.
+pub mod Laying
+pub mod Memory
