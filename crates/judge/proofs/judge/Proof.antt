@@ -62,7 +62,8 @@ returns-2 c =
     let texts : List (List ℕ) = map now (now (s .args .texts)) in
     let long : length texts ≡ TABLES = length-map (now (s .args .texts)) now ∙ s .pre .0 .1 in (
       judged-broken texts _ _ _ long _ (first .before .least-clashes .ensures) _ (first .first-clash .ensures) (told .if1 .left) _ _ _ _ _
-          (s .pre .1 .0) (s .pre .1 .1) (opened .open .ensures) _ _ (laid .lay-down .ensures .0) _ (c .before .if2 .taken) (c .refused .ensures),
+          (s .pre .1 .0) (s .pre .1 .1) (opened .open .ensures) _ _ (laid .lay-down .ensures .0) _ (c .before .if2 .taken)
+          (c .refused .ensures),
       refused-few _ _ _ (c .refused .ensures),
     )
 
@@ -86,7 +87,8 @@ returns-3 c =
     let long : length texts ≡ TABLES = length-map (now (s .args .texts)) now ∙ s .pre .0 .1 in (
       judged-lost texts _ _ _ long _ (first .before .least-clashes .ensures) _ (first .first-clash .ensures) (told .if1 .left) _ _ _ _ _
           (s .pre .1 .0) (s .pre .1 .1) (opened .open .ensures) _ _ (laid .lay-down .ensures .0)
-          (c .before .before .before .before .before .if2 .left) _ (c .before .before .least-lost .ensures) _ (c .before .if3 .taken) (c .refused2 .ensures),
+          (c .before .before .before .before .before .if2 .left) _ (c .before .before .least-lost .ensures) _ (c .before .if3 .taken)
+          (c .refused2 .ensures),
       refused-few _ _ _ (c .refused2 .ensures),
     )
 
