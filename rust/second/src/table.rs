@@ -37,8 +37,6 @@ pub struct Record<'t> {
     pub number: u32,
     pub parent: u32,
     pub content: &'t [u8],
-    /// Where the content starts in the text.
-    pub content_start: usize,
 }
 
 /// An accepted table, or the accepted lines of one being read.
@@ -46,7 +44,9 @@ pub struct Record<'t> {
 pub struct Table<'t> {
     /// In line order.
     records: Vec<Record<'t>>,
-    /// Number to place in `records`.
+    /// Where in the text the content of each record starts.
+    content_starts: Vec<usize>,
+    /// Number to place in both.
     place_of: HashMap<u32, usize>,
 }
 
@@ -58,8 +58,11 @@ impl<'t> Table<'t> {
         let mut line_start = 0;
         for ended_line in text.split_inclusive(|&byte| byte == LF) {
             let line = &ended_line[..ended_line.len() - 1];
-            match table.record_of_line(line, line_start) {
-                Ok(record) => table.add(record),
+            match table.record_of_line(line) {
+                Ok(record) => {
+                    let content_end = line_start + line.len();
+                    table.add(record, content_end - record.content.len());
+                }
                 Err(code) => {
                     return Err(Refusal {
                         code,
@@ -85,10 +88,10 @@ impl<'t> Table<'t> {
 
     /// The empty part at the start of the text for an absent number.
     pub fn content_place(&self, number: u32) -> Part {
-        match self.record(number) {
-            Some(record) => Part {
-                start: record.content_start,
-                length: record.content.len(),
+        match self.place_of.get(&number) {
+            Some(&place) => Part {
+                start: self.content_starts[place],
+                length: self.records[place].content.len(),
             },
             None => Part::default(),
         }
@@ -111,14 +114,15 @@ impl<'t> Table<'t> {
         self.place_of.contains_key(&number)
     }
 
-    fn add(&mut self, record: Record<'t>) {
+    fn add(&mut self, record: Record<'t>, content_start: usize) {
         self.place_of.insert(record.number, self.records.len());
         self.records.push(record);
+        self.content_starts.push(content_start);
     }
 
     /// The record on the line after those read, or the lowest of the codes 3
     /// to 10 that hold for it. They are tried in number order.
-    fn record_of_line(&self, line: &'t [u8], line_start: usize) -> Result<Record<'t>, u32> {
+    fn record_of_line(&self, line: &'t [u8]) -> Result<Record<'t>, u32> {
         if self.records.len() == MOST_LINES {
             return Err(TOO_MANY_LINES);
         }
@@ -147,7 +151,6 @@ impl<'t> Table<'t> {
             number,
             parent,
             content,
-            content_start: line_start + number_digits.len() + 1 + parent_digits.len() + 1,
         })
     }
 }

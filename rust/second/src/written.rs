@@ -1,15 +1,16 @@
 //! The written form: a record first, then its children in order, each with all
 //! below it.
 
-use crate::table::{Record, Table, TOP};
+use crate::table::{Record, TOP};
 use std::collections::BTreeMap;
 
-/// For each parent its children in line order.
+/// For each parent its children in order.
 type Children<'a, 't> = BTreeMap<u32, Vec<&'a Record<'t>>>;
 
-pub fn written_form(table: &Table) -> Vec<u8> {
+/// Of a table, or of any records of which each list stands in its order.
+pub fn written_form(records: &[Record]) -> Vec<u8> {
     let mut children = Children::new();
-    for record in table.records() {
+    for record in records {
         children.entry(record.parent).or_default().push(record);
     }
     let mut bytes = Vec::new();
