@@ -1,7 +1,9 @@
 //! What check and tidy cost in safe Rust written for speed: one pass over the
 //! bytes, eight at a time, one look-up for each number and parent, no heap.
 
+mod decimal;
 mod line;
+mod reading;
 mod tidy;
 
 pub use tidy::tidy;

@@ -1,12 +1,12 @@
 //! Tidy: each record holds its first child and its next sibling by their lines,
 //! so that reading and writing both take one step a line.
 
-use super::line::{code_of_line, good_line};
-use super::{unended_line, LF, NUMBERS};
+use super::decimal::write_decimal;
+use super::reading::{read_lines, Refusal};
+use super::NUMBERS;
 use bridge::Tidied;
-use second::{MOST_BYTES, MOST_LINES};
+use second::MOST_LINES;
 
-const TAB: u8 = 9;
 const TABLE_BUFFER_TOO_SHORT: u32 = 31;
 
 /// What stands on one line. Other records are told by their lines: 0 is the top
@@ -28,15 +28,13 @@ struct Record {
 type Records = [Record; MOST_LINES + 1];
 
 pub fn tidy(text: &[u8], buffer: &mut [u8]) -> Tidied {
-    if text.len() > MOST_BYTES {
-        return refused(1, 0);
-    }
-    if text.last().is_some_and(|&byte| byte != LF) {
-        return refused(2, unended_line(text));
-    }
     let mut records = [Record::default(); MOST_LINES + 1];
-    if let Err(refusal) = read(text, &mut records) {
-        return refusal;
+    if let Err(Refusal { code, line }) = read(text, &mut records) {
+        return Tidied {
+            code,
+            line,
+            length: 0,
+        };
     }
     // The same lines in another order are as many bytes.
     let length = text.len();
@@ -55,28 +53,10 @@ pub fn tidy(text: &[u8], buffer: &mut [u8]) -> Tidied {
     }
 }
 
-fn read(text: &[u8], records: &mut Records) -> Result<(), Tidied> {
+fn read(text: &[u8], records: &mut Records) -> Result<usize, Refusal> {
     let mut line_of = [0_u16; NUMBERS];
-    let mut line = 0;
-    let mut place = 0;
-    while place < text.len() {
-        line += 1;
-        let refuse = |code| Err(refused(code, line as u32));
-        if line > MOST_LINES {
-            return refuse(3);
-        }
-        let Some(good) = good_line(text, place) else {
-            return refuse(code_of_line(&text[place..]));
-        };
-        if line_of[usize::from(good.number)] != 0 {
-            return refuse(9);
-        }
-        let above = line_of[usize::from(good.parent)];
-        if above == 0 && good.parent != 0 {
-            return refuse(10);
-        }
-        line_of[usize::from(good.number)] = line as u16;
-        records[line] = Record {
+    read_lines(text, &mut line_of, |line, above, good| {
+        records[usize::from(line)] = Record {
             number: good.number,
             parent: good.parent,
             above,
@@ -84,10 +64,8 @@ fn read(text: &[u8], records: &mut Records) -> Result<(), Tidied> {
             length: (good.next - good.content) as u16,
             ..Record::default()
         };
-        hang(records, above, line as u16);
-        place = good.next;
-    }
-    Ok(())
+        hang(records, above, line);
+    })
 }
 
 /// The line's record becomes the last child of the one above.
@@ -139,57 +117,4 @@ fn write_record(text: &[u8], record: &Record, written: &mut [u8], place: usize) 
     let content = &text[content..content + length];
     written[content_place..content_place + length].copy_from_slice(content);
     content_place + length
-}
-
-/// The place after the tab that follows the digits.
-#[inline(always)]
-fn write_decimal(number: u16, written: &mut [u8], place: usize) -> usize {
-    let (word, length) = decimal_and_tab(number);
-    let bytes = word.to_le_bytes();
-    // What is written too far is written over by what comes next.
-    match written.get_mut(place..place + 8) {
-        Some(eight) => eight.copy_from_slice(&bytes),
-        None => written[place..place + length].copy_from_slice(&bytes[..length]),
-    }
-    place + length
-}
-
-/// The digits and the tab after them, the first lowest, and how many bytes that
-/// is.
-#[inline(always)]
-fn decimal_and_tab(number: u16) -> (u64, usize) {
-    let number = u64::from(number);
-    let (first, last_four) = (number / 10_000, number % 10_000);
-    // Two by two at once; 103 / 1,024 is a tenth for those below 100.
-    let pairs = (last_four / 100) | ((last_four % 100) << 16);
-    let tens = ((pairs * 103) >> 10) & 0x000f_000f;
-    let four = tens | ((pairs - 10 * tens) << 8);
-    let five = first | (four << 8);
-    // The last digit stays even if it is 0.
-    let zeros = ((five | (1 << 32)).trailing_zeros() / 8) as usize;
-    let word = five | 0x30_3030_3030 | (u64::from(TAB) << 40);
-    (word >> (8 * zeros), 6 - zeros)
-}
-
-#[cold]
-fn refused(code: u32, line: u32) -> Tidied {
-    Tidied {
-        code,
-        line,
-        length: 0,
-    }
-}
-
-#[cfg(test)]
-mod tests {
-    use super::decimal_and_tab;
-
-    #[test]
-    fn every_number() {
-        for number in 0..=u16::MAX {
-            let (word, length) = decimal_and_tab(number);
-            let bytes = word.to_le_bytes();
-            assert_eq!(bytes[..length], *format!("{number}\t").as_bytes());
-        }
-    }
 }
