@@ -3,6 +3,7 @@
 use crate::case::{Answer, Case};
 use crate::met::{Codes, Given};
 use crate::random::Random;
+use crate::run::Judged;
 use crate::tidying::{judge_tidy, Rooms};
 use std::fmt::Write;
 
@@ -12,18 +13,21 @@ const AFTER: &[u8] = b"\n3\t0\tq\n0\t0\tq\n";
 
 const SHOWN_BYTES: usize = 400;
 
-/// The codes both give, or what is different.
-pub fn judge(case: &Case, rooms: Rooms, random: &mut Random) -> Result<Given, String> {
-    let start = random.between(0, BEFORE.len());
-    let held = [&BEFORE[..start], &case.text, AFTER].concat();
-    let text = &held[start..start + case.text.len()];
-    let check = judge_check(text, case.expected)?;
-    let numbers = numbers_to_ask(text, random);
-    judge_content_places(text, &numbers)?;
-    judge_content(text, numbers[0])?;
-    let tidy = judge_tidy(text, case, rooms, random)?;
-    judge_text(text, case)?;
-    Ok(Given { check, tidy })
+impl Judged for Case {
+    const NAMED: &'static str = "texts";
+
+    fn judge(&self, rooms: Rooms, random: &mut Random) -> Result<Given, String> {
+        let start = random.between(0, BEFORE.len());
+        let held = [&BEFORE[..start], &self.text, AFTER].concat();
+        let text = &held[start..start + self.text.len()];
+        let check = judge_check(text, self.expected)?;
+        let numbers = numbers_to_ask(text, random);
+        judge_content_places(text, &numbers)?;
+        judge_content(text, numbers[0])?;
+        let tidy = judge_tidy(text, self, rooms, random)?;
+        judge_text(text, self)?;
+        Ok(Given { check, tidy })
+    }
 }
 
 /// The text is lent to be read alone.

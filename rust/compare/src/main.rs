@@ -79,8 +79,8 @@ fn wanted(arguments: impl Iterator<Item = String>) -> Option<Wanted> {
 
 fn show(outcome: &Outcome, with_codes: bool) {
     println!(
-        "compare: {} {} texts, {} differences",
-        outcome.name, outcome.texts, outcome.differences
+        "compare: {} {} {}, {} differences",
+        outcome.name, outcome.count, outcome.named, outcome.differences
     );
     for report in &outcome.reports {
         println!("{report}");

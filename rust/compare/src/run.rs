@@ -1,11 +1,19 @@
 //! Runs the parts and counts what they met.
 
-use crate::case::Case;
-use crate::judge::judge;
 use crate::met::{Given, Met};
 use crate::parts::{Part, Source, PARTS};
 use crate::random::Random;
+use crate::tidying::Rooms;
 use std::thread;
+
+/// What both programs are run over.
+pub trait Judged: Clone + Sync {
+    /// What several of them are called.
+    const NAMED: &'static str;
+
+    /// The codes both programs give, or what is different.
+    fn judge(&self, rooms: Rooms, random: &mut Random) -> Result<Given, String>;
+}
 
 /// However few texts are wanted, no part may pass without any.
 const FEWEST_DRAWN: usize = 1_000;
@@ -15,7 +23,9 @@ const REPORTS_SHOWN: usize = 3;
 #[derive(Clone, Debug, Default)]
 pub struct Outcome {
     pub name: &'static str,
-    pub texts: usize,
+    /// What it was run over, and over how many.
+    pub named: &'static str,
+    pub count: usize,
     pub differences: usize,
     pub met: Met,
     /// The first few differences.
@@ -24,20 +34,20 @@ pub struct Outcome {
 
 impl Outcome {
     fn count(&mut self, index: usize, judged: Result<Given, String>) {
-        self.texts += 1;
+        self.count += 1;
         match judged {
             Ok(given) => self.met.count(given),
             Err(report) => {
                 self.differences += 1;
                 if self.reports.len() < REPORTS_SHOWN {
-                    self.reports.push(format!("text {index}: {report}"));
+                    self.reports.push(format!("{index}: {report}"));
                 }
             }
         }
     }
 
     fn add(&mut self, other: Outcome) {
-        self.texts += other.texts;
+        self.count += other.count;
         self.differences += other.differences;
         self.met.add(other.met);
         self.reports.extend(other.reports);
@@ -48,21 +58,27 @@ impl Outcome {
 /// Runs each part, about `texts` texts in all, and shows each outcome as soon
 /// as it is known.
 pub fn run_all(seed: u64, texts: usize, show: impl Fn(&Outcome)) -> Vec<Outcome> {
-    let listed: Vec<Vec<Case>> = PARTS.iter().map(listed_cases).collect();
-    let listed_texts: usize = listed.iter().map(Vec::len).sum();
-    let drawn_texts = texts.saturating_sub(listed_texts).max(FEWEST_DRAWN);
+    run_parts(&PARTS, 0, seed, texts, &show)
+}
+
+/// The place is that of the first of the parts among all.
+fn run_parts<C: Judged>(
+    parts: &[Part<C>],
+    place: usize,
+    seed: u64,
+    wanted: usize,
+    show: &impl Fn(&Outcome),
+) -> Vec<Outcome> {
+    let listed: Vec<Vec<C>> = parts.iter().map(listed_cases).collect();
+    let listed_count: usize = listed.iter().map(Vec::len).sum();
+    let drawn_count = wanted.saturating_sub(listed_count).max(FEWEST_DRAWN);
     let mut outcomes = Vec::new();
-    for (place, part) in PARTS.iter().enumerate() {
+    for ((place, part), cases) in (place..).zip(parts).zip(&listed) {
+        let run = |count, make: Make<C>| run_part(part, place, seed, count, make);
         let outcome = match part.source {
-            Source::Listed(_) => {
-                let cases = &listed[place];
-                run_part(part, place, seed, cases.len(), &|index, _| {
-                    cases[index].clone()
-                })
-            }
+            Source::Listed(_) => run(cases.len(), &|index, _| cases[index].clone()),
             Source::Drawn { share, draw } => {
-                let count = drawn_texts * share / 100;
-                run_part(part, place, seed, count, &|_, random| draw(random))
+                run(drawn_count * share / 100, &|_, random| draw(random))
             }
         };
         show(&outcome);
@@ -71,21 +87,24 @@ pub fn run_all(seed: u64, texts: usize, show: impl Fn(&Outcome)) -> Vec<Outcome>
     outcomes
 }
 
-fn listed_cases(part: &Part) -> Vec<Case> {
+fn listed_cases<C>(part: &Part<C>) -> Vec<C> {
     match part.source {
         Source::Listed(cases) => cases(),
         Source::Drawn { .. } => Vec::new(),
     }
 }
 
-/// Each text has a random generator of its own, so the threads' number changes
+/// Makes a case from its place in the part and a random generator.
+type Make<'a, C> = &'a (dyn Fn(usize, &mut Random) -> C + Sync);
+
+/// Each case has a random generator of its own, so the threads' number changes
 /// nothing.
-fn run_part(
-    part: &Part,
+fn run_part<C: Judged>(
+    part: &Part<C>,
     place: usize,
     seed: u64,
     count: usize,
-    make: &(dyn Fn(usize, &mut Random) -> Case + Sync),
+    make: Make<C>,
 ) -> Outcome {
     let threads = thread::available_parallelism().map_or(1, usize::from);
     let run_every = |first: usize| {
@@ -93,12 +112,13 @@ fn run_part(
         for index in (first..count).step_by(threads) {
             let mut random = Random::for_text(seed, place, index);
             let case = make(index, &mut random);
-            outcome.count(index, judge(&case, part.rooms, &mut random));
+            outcome.count(index, case.judge(part.rooms, &mut random));
         }
         outcome
     };
     let mut whole = Outcome {
         name: part.name,
+        named: C::NAMED,
         ..Outcome::default()
     };
     thread::scope(|scope| {

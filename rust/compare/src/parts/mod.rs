@@ -13,24 +13,24 @@ use crate::case::Case;
 use crate::random::Random;
 use crate::tidying::Rooms;
 
-pub enum Source {
-    /// Always the same texts.
-    Listed(fn() -> Vec<Case>),
+pub enum Source<C> {
+    /// Always the same.
+    Listed(fn() -> Vec<C>),
     /// Drawn one at a time; the share is in parts of a hundred.
     Drawn {
         share: usize,
-        draw: fn(&mut Random) -> Case,
+        draw: fn(&mut Random) -> C,
     },
 }
 
-pub struct Part {
+pub struct Part<C> {
     pub name: &'static str,
-    pub source: Source,
+    pub source: Source<C>,
     pub rooms: Rooms,
 }
 
 /// A part's place goes into its random generators, so new ones come last.
-pub const PARTS: [Part; 13] = [
+pub const PARTS: [Part<Case>; 13] = [
     listed("limits", limits::cases),
     listed("alone", alone::cases),
     listed("pairs-one-line", pairs::on_one_line),
@@ -46,7 +46,7 @@ pub const PARTS: [Part; 13] = [
     drawn("tidy-damaged", 8, damaged::draw).in_many_rooms(),
 ];
 
-const fn listed(name: &'static str, cases: fn() -> Vec<Case>) -> Part {
+const fn listed<C>(name: &'static str, cases: fn() -> Vec<C>) -> Part<C> {
     Part {
         name,
         source: Source::Listed(cases),
@@ -54,7 +54,7 @@ const fn listed(name: &'static str, cases: fn() -> Vec<Case>) -> Part {
     }
 }
 
-const fn drawn(name: &'static str, share: usize, draw: fn(&mut Random) -> Case) -> Part {
+const fn drawn<C>(name: &'static str, share: usize, draw: fn(&mut Random) -> C) -> Part<C> {
     Part {
         name,
         source: Source::Drawn { share, draw },
@@ -62,11 +62,9 @@ const fn drawn(name: &'static str, share: usize, draw: fn(&mut Random) -> Case) 
     }
 }
 
-impl Part {
-    const fn in_many_rooms(self) -> Part {
-        Part {
-            rooms: Rooms::Many,
-            ..self
-        }
+impl<C> Part<C> {
+    const fn in_many_rooms(mut self) -> Part<C> {
+        self.rooms = Rooms::Many;
+        self
     }
 }
