@@ -1,7 +1,9 @@
-//! Safe calls to the proved library. All the unsafe code of the workspace is
-//! here.
+//! Safe calls to the proved library. All the unsafe code of the workspace is in
+//! this crate.
 
 #![warn(missing_docs)]
+
+mod library;
 
 /// The answer of check. `line` is 0 when accepted; `count` and `depth` are 0
 /// when refused.
@@ -32,6 +34,24 @@ pub struct Tidied {
     pub length: usize,
 }
 
+/// The answer of merge.
+#[repr(C)]
+#[derive(Clone, Copy, Debug, PartialEq, Eq)]
+pub struct Merged {
+    /// 0 when accepted, 1 to 10 for a refused table, 21 to 26 for tables that
+    /// do not merge, 31 and 32 for a table or ledger buffer that is too short.
+    pub code: u32,
+    /// The refused table: 1 old, 2 first, 3 second; 0 with every other code.
+    pub table: u32,
+    /// The line, record or parent the code is given for.
+    pub place: u32,
+    /// How many bytes of the table were written. On codes 31 and 32 how many
+    /// are needed, on any other refusal 0.
+    pub table_length: usize,
+    /// The same of the ledger.
+    pub ledger_length: usize,
+}
+
 /// A part of the lent text.
 #[repr(C)]
 #[derive(Clone, Copy, Debug, PartialEq, Eq)]
@@ -40,63 +60,6 @@ pub struct Part {
     pub start: usize,
     /// How many bytes it has.
     pub length: usize,
-}
-
-mod library {
-    use super::{Checked, Part, Tidied};
-
-    // The members and their order are those of the library's own structs.
-    extern "C" {
-        #[cfg(target_arch = "x86_64")]
-        fn brooksaddle_check(text: *const u8, length: usize) -> Checked;
-
-        // The library's module is made for the calls of x86-64, where the
-        // caller passes a pointer to an answer of more than two words first.
-        // Compiled for another machine it still wants that pointer there.
-        #[cfg(not(target_arch = "x86_64"))]
-        fn brooksaddle_check(answer: *mut Checked, text: *const u8, length: usize) -> *mut Checked;
-
-        // An answer of two words is handed back in two registers, on x86-64 as
-        // on Arm. In that of tidy, code and line are the halves of the first.
-        fn brooksaddle_tidy(text: *const u8, length: usize, buffer: *mut u8, room: usize)
-            -> Tidied;
-
-        fn brooksaddle_content(text: *const u8, length: usize, number: u32) -> Part;
-    }
-
-    #[cfg(target_arch = "x86_64")]
-    pub fn check(text: &[u8]) -> Checked {
-        // SAFETY: the pointer and length are those of a live slice, so all its
-        // bytes may be read, and the pointer is not null even when it is empty.
-        // The library only reads the text and keeps nothing of it after the
-        // call.
-        unsafe { brooksaddle_check(text.as_ptr(), text.len()) }
-    }
-
-    #[cfg(not(target_arch = "x86_64"))]
-    pub fn check(text: &[u8]) -> Checked {
-        let mut answer = std::mem::MaybeUninit::uninit();
-        // SAFETY: as on x86-64; and the answer has room for the library to
-        // write, which it does on every way out.
-        unsafe {
-            brooksaddle_check(answer.as_mut_ptr(), text.as_ptr(), text.len());
-            answer.assume_init()
-        }
-    }
-
-    pub fn tidy(text: &[u8], buffer: &mut [u8]) -> Tidied {
-        // SAFETY: as in `check` for the text. The buffer's pointer and length
-        // are those of a live slice lent to this call alone, so all its bytes
-        // may be written and none is one of the text's. The library writes
-        // nowhere else, and keeps nothing of either after the call.
-        unsafe { brooksaddle_tidy(text.as_ptr(), text.len(), buffer.as_mut_ptr(), buffer.len()) }
-    }
-
-    pub fn content(text: &[u8], number: u32) -> Part {
-        // SAFETY: as in `check`. The answer is two numbers and holds no
-        // pointer.
-        unsafe { brooksaddle_content(text.as_ptr(), text.len(), number) }
-    }
 }
 
 /// Checks one table.
@@ -135,6 +98,52 @@ pub fn content_place(text: &[u8], number: u32) -> Part {
 pub fn content(text: &[u8], number: u32) -> &[u8] {
     let Part { start, length } = content_place(text, number);
     &text[start..][..length]
+}
+
+/// Merges the edits of first and second into the old table, and writes the
+/// merged table and its ledger to the two buffers.
+///
+/// Accepted, each buffer is written from byte 0 on and the bytes past its length
+/// stay. Refused, all of both buffers stays.
+///
+/// ```
+/// let old = b"1\t0\tairport\tid=XQAA\n\
+///             2\t1\thold\tfix=TARNO\tturn=L\n\
+///             3\t1\tnote\ttext=old\n";
+/// let first = b"1\t0\tairport\tid=XQAA\n\
+///               2\t1\thold\tfix=TARNO\tturn=L\n\
+///               3\t1\tnote\ttext=new\n";
+/// let second = b"1\t0\tairport\tid=XQAA\n\
+///                2\t1\thold\tfix=TARNO\tturn=L\n\
+///                4\t1\thold\tfix=BELIN\tturn=R\n\
+///                3\t1\tnote\ttext=old\n";
+/// let (mut table, mut ledger) = ([b'.'; 32_768], [b'.'; 8_192]);
+/// let merged = bridge::merge(old, first, second, &mut table, &mut ledger);
+/// assert_eq!((merged.code, merged.table, merged.place), (0, 0, 0));
+/// assert_eq!((merged.table_length, merged.ledger_length), (90, 39));
+/// assert_eq!(
+///     &table[..92],
+///     b"1\t0\tairport\tid=XQAA\n\
+///       2\t1\thold\tfix=TARNO\tturn=L\n\
+///       4\t1\thold\tfix=BELIN\tturn=R\n\
+///       3\t1\tnote\ttext=new\n.."
+/// );
+/// assert_eq!(
+///     &ledger[..41],
+///     b"1\t0\t15\n2\t0\t21\n4\t2\t21\n3\t1\t13\ntotal\t4\t70\n.."
+/// );
+///
+/// let merged = bridge::merge(old, first, second, &mut table[..89], &mut ledger);
+/// assert_eq!((merged.code, merged.table_length), (31, 90));
+/// ```
+pub fn merge(
+    old: &[u8],
+    first: &[u8],
+    second: &[u8],
+    table: &mut [u8],
+    ledger: &mut [u8],
+) -> Merged {
+    library::merge([old, first, second], [table, ledger])
 }
 
 #[cfg(test)]
@@ -205,5 +214,58 @@ mod tests {
         assert_eq!(content(b"", 1), b"");
         assert_eq!(tidy(b"", &mut []), tidied(0, 0, 0));
         assert_eq!(tidy(&Vec::new(), &mut Vec::new()), tidied(0, 0, 0));
+    }
+    fn merged(code: u32, table: u32, place: u32, lengths: [usize; 2]) -> Merged {
+        Merged {
+            code,
+            table,
+            place,
+            table_length: lengths[0],
+            ledger_length: lengths[1],
+        }
+    }
+
+    const OLD: &[u8] = b"1\t0\ta\n";
+    const FIRST: &[u8] = b"1\t0\tb\n";
+    const SECOND: &[u8] = b"1\t0\ta\n2\t1\tc\n";
+
+    #[test]
+    fn the_merged_table_and_the_ledger_are_in_their_buffers() {
+        let (mut table, mut ledger) = ([b'.'; 14], [b'.'; 25]);
+        let answer = merge(OLD, FIRST, SECOND, &mut table, &mut ledger);
+        assert_eq!(answer, merged(0, 0, 0, [12, 22]));
+        assert_eq!(&table, b"1\t0\tb\n2\t1\tc\n..");
+        assert_eq!(&ledger, b"1\t1\t1\n2\t2\t1\ntotal\t2\t2\n...");
+    }
+
+    #[test]
+    fn a_refused_merge_leaves_both_buffers() {
+        let (mut table, mut ledger) = ([b'.'; 12], [b'.'; 22]);
+        let mut told = |texts: [&[u8]; 3], table_room: usize, ledger_room: usize| {
+            let [old, first, second] = texts;
+            let (table, ledger) = (&mut table[..table_room], &mut ledger[..ledger_room]);
+            merge(old, first, second, table, ledger)
+        };
+        let texts = [OLD, FIRST, SECOND];
+        assert_eq!(told(texts, 11, 22), merged(31, 0, 0, [12, 22]));
+        assert_eq!(told(texts, 12, 21), merged(32, 0, 0, [12, 22]));
+        assert_eq!(told(texts, 0, 0), merged(31, 0, 0, [12, 22]));
+        let other: &[u8] = b"1\t0\tc\n";
+        assert_eq!(told([OLD, FIRST, other], 12, 22), merged(21, 0, 1, [0, 0]));
+        let refused: &[u8] = b"1\t0\tx\n2\t7\tx\n";
+        assert_eq!(told([refused; 3], 12, 22), merged(10, 1, 2, [0, 0]));
+        assert_eq!(told([OLD, refused, OLD], 12, 22), merged(10, 2, 2, [0, 0]));
+        assert_eq!(told([OLD, OLD, refused], 12, 22), merged(10, 3, 2, [0, 0]));
+        assert_eq!((table, ledger), ([b'.'; 12], [b'.'; 22]));
+    }
+
+    #[test]
+    fn empty_tables_merge() {
+        let mut ledger = [b'.'; 11];
+        let answer = merge(b"", b"", b"", &mut [], &mut ledger);
+        assert_eq!(answer, merged(0, 0, 0, [0, 10]));
+        assert_eq!(&ledger, b"total\t0\t0\n.");
+        let answer = merge(b"", b"", b"", &mut [], &mut []);
+        assert_eq!(answer, merged(32, 0, 0, [0, 10]));
     }
 }
