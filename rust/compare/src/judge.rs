@@ -1,15 +1,12 @@
 //! Runs both programs over a text and says how their answers differ.
 
 use crate::case::{Answer, Case};
+use crate::lent::Held;
 use crate::met::{Codes, Given};
 use crate::random::Random;
 use crate::run::Judged;
 use crate::tidying::{judge_tidy, Rooms};
 use std::fmt::Write;
-
-/// A program that reads past its text would meet these.
-const BEFORE: &[u8] = b"4\t0\tq\n1";
-const AFTER: &[u8] = b"\n3\t0\tq\n0\t0\tq\n";
 
 const SHOWN_BYTES: usize = 400;
 
@@ -17,25 +14,28 @@ impl Judged for Case {
     const NAMED: &'static str = "texts";
 
     fn judge(&self, rooms: Rooms, random: &mut Random) -> Result<Given, String> {
-        let start = random.between(0, BEFORE.len());
-        let held = [&BEFORE[..start], &self.text, AFTER].concat();
-        let text = &held[start..start + self.text.len()];
+        let held = Held::new(&self.text, random);
+        let text = held.text();
         let check = judge_check(text, self.expected)?;
         let numbers = numbers_to_ask(text, random);
         judge_content_places(text, &numbers)?;
         judge_content(text, numbers[0])?;
         let tidy = judge_tidy(text, self, rooms, random)?;
-        judge_text(text, self)?;
-        Ok(Given { check, tidy })
+        judge_text(text, &self.text)?;
+        Ok(Given {
+            check,
+            tidy,
+            ..Given::default()
+        })
     }
 }
 
 /// The text is lent to be read alone.
-fn judge_text(text: &[u8], case: &Case) -> Result<(), String> {
-    if text == case.text {
+pub fn judge_text(text: &[u8], before: &[u8]) -> Result<(), String> {
+    if text == before {
         return Ok(());
     }
-    Err("the text was changed\n".to_string() + &shown(&case.text))
+    Err("the text was changed\n".to_string() + &shown(before))
 }
 
 fn judge_check(text: &[u8], expected: Option<Answer>) -> Result<Codes, String> {

@@ -1,11 +1,37 @@
-//! A buffer lent out of a larger piece of memory. Every byte of that piece is
-//! known before the call and looked at after it.
+//! Texts and buffers lent out of larger pieces of memory. Every byte of a
+//! buffer's piece is known before the call and looked at after it.
 
 use crate::random::Random;
 
 /// Longer than a line, so that one written beside the buffer is seen.
 const GUARD: usize = 160;
 
+/// A program that reads past its text would meet these.
+const BEFORE: &[u8] = b"4\t0\tq\n1";
+const AFTER: &[u8] = b"\n3\t0\tq\n0\t0\tq\n";
+
+/// A text to be read.
+pub struct Held {
+    held: Vec<u8>,
+    start: usize,
+}
+
+impl Held {
+    pub fn new(text: &[u8], random: &mut Random) -> Held {
+        let start = random.between(0, BEFORE.len());
+        Held {
+            held: [&BEFORE[..start], text, AFTER].concat(),
+            start,
+        }
+    }
+
+    pub fn text(&self) -> &[u8] {
+        &self.held[self.start..self.held.len() - AFTER.len()]
+    }
+}
+
+/// A buffer to be written.
+#[derive(Clone)]
 pub struct Lent {
     held: Vec<u8>,
     /// Where the buffer starts in what is held.
@@ -36,6 +62,16 @@ impl Lent {
     pub fn first_wrong(&self, written: &[u8]) -> Option<String> {
         let mut wanted = filled(self.held.len(), self.key);
         wanted[self.start..][..written.len()].copy_from_slice(written);
+        self.first_not(&wanted)
+    }
+
+    /// The first byte that is not as in the other, which was once a clone of
+    /// this one.
+    pub fn first_unlike(&self, other: &Lent) -> Option<String> {
+        self.first_not(&other.held)
+    }
+
+    fn first_not(&self, wanted: &[u8]) -> Option<String> {
         if self.held == wanted {
             return None;
         }

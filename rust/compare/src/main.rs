@@ -2,6 +2,9 @@
 //!
 //! `cargo run --release -p compare [-- [--codes] [SEED [TEXTS]]]`
 //!
+//! Merge is run over a third as many triples of texts as check and tidy over
+//! texts.
+//!
 //! A part of the comparison is a test, and so is, for each call, that it gave
 //! each of its codes often enough. `--codes` shows how often in each part.
 
@@ -11,6 +14,7 @@ mod case;
 mod judge;
 mod lent;
 mod lines;
+mod merging;
 mod met;
 mod parts;
 mod random;
@@ -20,7 +24,7 @@ mod tables;
 mod tidying;
 mod trees;
 
-use met::{Met, LEAST_OF_EACH_CODE, OF_CHECK, OF_TIDY};
+use met::{Met, LEAST_OF_EACH_CODE};
 use run::{met_by_all, run_all, Outcome};
 use std::process::ExitCode;
 
@@ -41,12 +45,10 @@ fn main() -> ExitCode {
     let outcomes = run_all(wanted.seed, wanted.texts, |outcome| {
         show(outcome, wanted.codes)
     });
-    let met = met_by_all(&outcomes);
-    let seldom = too_seldom(&met);
-    show_codes(&met, &seldom);
+    let seldom = show_codes(&met_by_all(&outcomes));
     let tests = outcomes.len() + seldom.len();
     let failed = outcomes.iter().filter(|part| part.differences > 0).count()
-        + seldom.iter().filter(|(_, codes)| !codes.is_empty()).count();
+        + seldom.iter().filter(|codes| !codes.is_empty()).count();
     println!("{} passed, {failed} failed", tests - failed);
     ExitCode::from(u8::from(failed > 0))
 }
@@ -86,27 +88,25 @@ fn show(outcome: &Outcome, with_codes: bool) {
         println!("{report}");
     }
     if with_codes {
-        println!("  check {}", outcome.met.check.listed(&OF_CHECK));
-        println!("  tidy  {}", outcome.met.tidy.listed(&OF_TIDY));
+        for of_call in outcome.met.of_each_call() {
+            if of_call.was_made() {
+                println!("  {:5} {}", of_call.call, of_call.listed());
+            }
+        }
     }
 }
 
 /// For each call the codes it gave too seldom.
-fn too_seldom(met: &Met) -> [(&'static str, Vec<u32>); 2] {
-    [
-        ("check", met.check.too_seldom(&OF_CHECK)),
-        ("tidy", met.tidy.too_seldom(&OF_TIDY)),
-    ]
-}
-
-fn show_codes(met: &Met, seldom: &[(&str, Vec<u32>)]) {
-    println!("codes of check: {}", met.check.listed(&OF_CHECK));
-    println!("codes of tidy: {}", met.tidy.listed(&OF_TIDY));
-    for (call, codes) in seldom {
-        for code in codes {
+fn show_codes(met: &Met) -> [Vec<u32>; 3] {
+    met.of_each_call().map(|of_call| {
+        let call = of_call.call;
+        println!("codes of {call}: {}", of_call.listed());
+        let seldom = of_call.too_seldom();
+        for code in &seldom {
             println!("code {code} of {call} was met fewer than {LEAST_OF_EACH_CODE} times");
         }
-    }
+        seldom
+    })
 }
 
 #[cfg(test)]
@@ -116,9 +116,9 @@ mod tests {
     /// Fewer texts than the program runs, from another seed.
     #[test]
     fn no_part_differs() {
-        let outcomes = run_all(1, 40_000, |outcome| show(outcome, false));
+        let outcomes = run_all(1, 48_000, |outcome| show(outcome, false));
         assert!(outcomes.iter().all(|part| part.differences == 0));
-        let none = [("check", vec![]), ("tidy", vec![])];
-        assert_eq!(too_seldom(&met_by_all(&outcomes)), none);
+        let none: [Vec<u32>; 3] = Default::default();
+        assert_eq!(show_codes(&met_by_all(&outcomes)), none);
     }
 }

@@ -1,7 +1,7 @@
 //! Runs the parts and counts what they met.
 
 use crate::met::{Given, Met};
-use crate::parts::{Part, Source, PARTS};
+use crate::parts::{Part, Source, MERGE_PARTS, PARTS};
 use crate::random::Random;
 use crate::tidying::Rooms;
 use std::thread;
@@ -55,10 +55,16 @@ impl Outcome {
     }
 }
 
+/// For so many texts there is one triple to merge.
+const TEXTS_A_TRIPLE: usize = 3;
+
 /// Runs each part, about `texts` texts in all, and shows each outcome as soon
 /// as it is known.
 pub fn run_all(seed: u64, texts: usize, show: impl Fn(&Outcome)) -> Vec<Outcome> {
-    run_parts(&PARTS, 0, seed, texts, &show)
+    let mut outcomes = run_parts(&PARTS, 0, seed, texts, &show);
+    let triples = texts / TEXTS_A_TRIPLE;
+    outcomes.extend(run_parts(&MERGE_PARTS, PARTS.len(), seed, triples, &show));
+    outcomes
 }
 
 /// The place is that of the first of the parts among all.

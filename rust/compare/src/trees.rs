@@ -4,6 +4,7 @@
 use crate::lines::{text_of, Line};
 use crate::random::Random;
 use crate::tables::{draw_content, draw_contents, draw_numbers, LONGEST_CONTENT, MOST_BYTES};
+use std::collections::HashMap;
 
 /// Where the next record in written order goes.
 #[derive(Clone, Copy, Debug)]
@@ -119,6 +120,29 @@ impl Tree {
             tree.depth = tree.depth.max(path.len() - 1);
         }
         tree
+    }
+
+    /// The records in written order: number, parent and content.
+    pub fn of(records: &[(u32, u32, &[u8])]) -> Tree {
+        let mut tree = Tree {
+            lines: Vec::with_capacity(records.len()),
+            children: vec![Vec::new(); records.len() + 1],
+            depth: 0,
+        };
+        // By number where a record stands and how deep; the top stands last.
+        let mut known = HashMap::from([(0, (records.len(), 0))]);
+        for (place, &(number, parent, content)) in records.iter().enumerate() {
+            let (above, depth) = known[&parent];
+            known.insert(number, (place, depth + 1));
+            tree.children[above].push(place);
+            tree.depth = tree.depth.max(depth + 1);
+            tree.lines.push(Line::new(number, parent, content));
+        }
+        tree
+    }
+
+    pub fn lines(&self) -> &[Line] {
+        &self.lines
     }
 
     pub fn count(&self) -> usize {

@@ -13,7 +13,8 @@ pub fn draw(random: &mut Random) -> Case {
     Case::unknown(text)
 }
 
-fn damage(text: &mut Vec<u8>, random: &mut Random) {
+/// Once, in one of several ways.
+pub fn damage(text: &mut Vec<u8>, random: &mut Random) {
     if text.is_empty() {
         return;
     }

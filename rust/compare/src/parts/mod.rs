@@ -4,12 +4,14 @@ mod alone;
 mod damaged;
 mod good;
 mod limits;
+mod merges;
 mod near;
 mod pairs;
 mod raw;
 mod trees;
 
 use crate::case::Case;
+use crate::merging::Triple;
 use crate::random::Random;
 use crate::tidying::Rooms;
 
@@ -44,6 +46,20 @@ pub const PARTS: [Part<Case>; 13] = [
     drawn("tidy-turns", 10, trees::draw_turns).in_many_rooms(),
     drawn("tidy-full", 2, trees::draw_full).in_many_rooms(),
     drawn("tidy-damaged", 8, damaged::draw).in_many_rooms(),
+];
+
+/// They follow the others.
+pub const MERGE_PARTS: [Part<Triple>; 10] = [
+    listed("merge-letters", merges::letters::triples).in_many_rooms(),
+    listed("merge-limits", merges::limits::triples),
+    drawn("merge-edits", 24, merges::edited::draw).in_many_rooms(),
+    drawn("merge-pairs", 24, merges::edited::draw_pairs).in_many_rooms(),
+    drawn("merge-clashes", 8, merges::clashes::draw),
+    drawn("merge-disjoint", 12, merges::disjoint::draw).in_many_rooms(),
+    drawn("merge-alone", 6, merges::alone::draw),
+    drawn("merge-refused", 18, merges::damaged::draw),
+    drawn("merge-damaged", 5, merges::damaged::draw_loose),
+    drawn("merge-large", 3, merges::large::draw),
 ];
 
 const fn listed<C>(name: &'static str, cases: fn() -> Vec<C>) -> Part<C> {
