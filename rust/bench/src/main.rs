@@ -5,14 +5,16 @@
 
 #![forbid(unsafe_code)]
 
+mod merging;
 mod report;
 mod stack;
 mod tables;
 mod tidying;
 mod timing;
+mod triples;
 mod twin;
 
-use report::report;
+use report::{report, Times};
 use std::hint::black_box;
 use std::process::ExitCode;
 use tables::{Table, SHAPES, SIZES};
@@ -25,6 +27,8 @@ fn main() -> ExitCode {
             report("check", "pass", times_of_check);
             println!();
             report("tidy", "copy", tidying::times);
+            println!();
+            report("merge of three tables", "pass", merging::times);
             println!();
             report_content();
             ExitCode::SUCCESS
@@ -46,15 +50,19 @@ fn exit_code(good: bool) -> ExitCode {
     }
 }
 
-fn times_of_check(table: &Table) -> [f64; 4] {
+fn times_of_check(table: &Table) -> Times {
     let text = &table.text[..];
     must_agree(text);
-    medians([
+    let each = medians([
         &|| ignore(bridge::check(black_box(text))),
         &|| ignore(second::check(black_box(text))),
         &|| ignore(twin::check(black_box(text))),
         &|| ignore(plain_pass(black_box(text))),
-    ])
+    ]);
+    Times {
+        bytes: text.len(),
+        each,
+    }
 }
 
 /// Keeps the answer from being left out as unused.

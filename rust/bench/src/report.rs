@@ -3,8 +3,14 @@
 
 use crate::tables::{Table, SHAPES, SIZES};
 
-/// The times are those of proved, second, twin and the least, in nanoseconds.
-pub fn report(call: &str, least: &str, times: impl Fn(&Table) -> [f64; 4]) {
+/// How many bytes a call reads, and the times of proved, second, twin and the
+/// least, in nanoseconds.
+pub struct Times {
+    pub bytes: usize,
+    pub each: [f64; 4],
+}
+
+pub fn report(call: &str, least: &str, times: impl Fn(&Table) -> Times) {
     println!("{call}, microseconds (medians); /NAME is proved divided by NAME");
     println!(
         "{:12}{:>6}{:>7}{:>10}{:>10}{:>10}{least:>10}{:>10}{:>10}{:>10}",
@@ -21,13 +27,13 @@ pub fn report(call: &str, least: &str, times: impl Fn(&Table) -> [f64; 4]) {
     for shape in &SHAPES {
         for count in SIZES {
             let table = (shape.table)(count);
-            report_row(shape.name, count, table.text.len(), times(&table));
+            report_row(shape.name, count, times(&table));
         }
     }
 }
 
-fn report_row(shape: &str, lines: usize, bytes: usize, times: [f64; 4]) {
-    let [proved, second, twin, least] = times;
+fn report_row(shape: &str, lines: usize, Times { bytes, each }: Times) {
+    let [proved, second, twin, least] = each;
     println!(
         "{shape:12}{lines:6}{bytes:7}{:10.2}{:10.2}{:10.2}{:10.2}{:10.2}{:10.2}{:10.1}",
         proved / 1e3,

@@ -4,6 +4,7 @@
 
 use crate::ignore;
 use crate::tables::{Table, SHAPES};
+use crate::triples::Triple;
 use crate::twin;
 use std::env;
 use std::hint::black_box;
@@ -27,7 +28,7 @@ const NOTHING: Tried = Tried {
     call: |_| (),
 };
 
-const CALLS: [Tried; 7] = [
+const CALLS: [Tried; 10] = [
     Tried {
         name: "proved check",
         call: |table| ignore(bridge::check(&table.text)),
@@ -41,12 +42,28 @@ const CALLS: [Tried; 7] = [
         call: |table| ignore(bridge::content_place(&table.text, table.last)),
     },
     Tried {
+        name: "proved merge",
+        call: |table| {
+            merge_with(table, |[old, first, second], table, ledger| {
+                ignore(bridge::merge(old, first, second, table, ledger));
+            })
+        },
+    },
+    Tried {
         name: "second check",
         call: |table| ignore(second::check(&table.text)),
     },
     Tried {
         name: "second tidy",
         call: |table| ignore(second::tidy(&table.text, table.text.len())),
+    },
+    Tried {
+        name: "second merge",
+        call: |table| {
+            merge_with(table, |[old, first, second], table, ledger| {
+                ignore(second::merge(old, first, second, table, ledger));
+            })
+        },
     },
     Tried {
         name: "twin check",
@@ -56,7 +73,22 @@ const CALLS: [Tried; 7] = [
         name: "twin tidy",
         call: |table| ignore(twin::tidy(&table.text, &mut vec![0; table.text.len()])),
     },
+    Tried {
+        name: "twin merge",
+        call: |table| {
+            merge_with(table, |[old, first, second], table, ledger| {
+                ignore(twin::merge(old, first, second, table, ledger));
+            })
+        },
+    },
 ];
+
+/// The table with two desks' edits, and buffers on the heap.
+fn merge_with(table: &Table, merge: fn([&[u8]; 3], &mut [u8], &mut [u8])) {
+    let triple = Triple::of(table);
+    let texts = triple.texts.each_ref().map(Vec::as_slice);
+    merge(texts, &mut vec![0; 32_768], &mut vec![0; 8_192]);
+}
 
 /// Prints the stack each call uses on a full table.
 pub fn report() -> io::Result<()> {

@@ -1,23 +1,28 @@
 //! Times tidy beside plain Rust and a plain copy of the bytes.
 
 use crate::ignore;
+use crate::report::Times;
 use crate::tables::Table;
 use crate::timing::medians;
 use crate::twin;
 use std::cell::RefCell;
 use std::hint::black_box;
 
-pub fn times(table: &Table) -> [f64; 4] {
+pub fn times(table: &Table) -> Times {
     let text = &table.text[..];
     must_agree(text);
     // The same for all, so that none has it nearer than the others.
     let buffer = RefCell::new(vec![0; text.len()]);
-    medians([
+    let each = medians([
         &|| ignore(bridge::tidy(black_box(text), &mut buffer.borrow_mut())),
         &|| ignore(second::tidy(black_box(text), text.len())),
         &|| ignore(twin::tidy(black_box(text), &mut buffer.borrow_mut())),
         &|| plain_copy(black_box(text), &mut buffer.borrow_mut()),
-    ])
+    ]);
+    Times {
+        bytes: text.len(),
+        each,
+    }
 }
 
 /// Times mean nothing for different answers.

@@ -1,11 +1,16 @@
-//! What check and tidy cost in safe Rust written for speed: one pass over the
+//! What the calls cost in safe Rust written for speed: one pass over the
 //! bytes, eight at a time, one look-up for each number and parent, no heap.
 
 mod decimal;
+mod edits;
 mod line;
+mod links;
+mod merge;
 mod reading;
 mod tidy;
+mod walk;
 
+pub use merge::merge;
 pub use tidy::tidy;
 
 use line::{code_of_line, good_line};
@@ -81,10 +86,10 @@ mod tests {
     use super::{check, tidy};
     use crate::tables::{BYTES_A_LINE, SHAPES, SIZES};
 
-    struct Random(u64);
+    pub struct Random(pub u64);
 
     impl Random {
-        fn below(&mut self, bound: usize) -> usize {
+        pub fn below(&mut self, bound: usize) -> usize {
             self.0 ^= self.0 << 13;
             self.0 ^= self.0 >> 7;
             self.0 ^= self.0 << 17;

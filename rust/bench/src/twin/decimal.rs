@@ -15,6 +15,15 @@ pub fn write_decimal(number: u16, written: &mut [u8], place: usize) -> usize {
     place + length
 }
 
+/// How many digits a number has.
+#[inline(always)]
+pub fn digits(number: u16) -> usize {
+    1 + usize::from(number > 9)
+        + usize::from(number > 99)
+        + usize::from(number > 999)
+        + usize::from(number > 9_999)
+}
+
 /// The digits and the tab after them, the first lowest, and how many bytes that
 /// is.
 #[inline(always)]
@@ -34,7 +43,7 @@ fn decimal_and_tab(number: u16) -> (u64, usize) {
 
 #[cfg(test)]
 mod tests {
-    use super::decimal_and_tab;
+    use super::{decimal_and_tab, digits};
 
     #[test]
     fn every_number() {
@@ -42,6 +51,7 @@ mod tests {
             let (word, length) = decimal_and_tab(number);
             let bytes = word.to_le_bytes();
             assert_eq!(bytes[..length], *format!("{number}\t").as_bytes());
+            assert_eq!(digits(number), length - 1);
         }
     }
 }
