@@ -75,14 +75,16 @@ fn run_parts<C: Judged>(
     wanted: usize,
     show: &impl Fn(&Outcome),
 ) -> Vec<Outcome> {
-    let listed: Vec<Vec<C>> = parts.iter().map(listed_cases).collect();
-    let listed_count: usize = listed.iter().map(Vec::len).sum();
-    let drawn_count = wanted.saturating_sub(listed_count).max(FEWEST_DRAWN);
+    let listed: usize = parts.iter().map(listed_count).sum();
+    let drawn_count = wanted.saturating_sub(listed).max(FEWEST_DRAWN);
     let mut outcomes = Vec::new();
-    for ((place, part), cases) in (place..).zip(parts).zip(&listed) {
+    for (place, part) in (place..).zip(parts) {
         let run = |count, make: Make<C>| run_part(part, place, seed, count, make);
         let outcome = match part.source {
-            Source::Listed(_) => run(cases.len(), &|index, _| cases[index].clone()),
+            Source::Listed(cases) | Source::Every(cases) => {
+                let cases = cases();
+                run(cases.len(), &|index, _| cases[index].clone())
+            }
             Source::Drawn { share, draw } => {
                 run(drawn_count * share / 100, &|_, random| draw(random))
             }
@@ -93,10 +95,11 @@ fn run_parts<C: Judged>(
     outcomes
 }
 
-fn listed_cases<C>(part: &Part<C>) -> Vec<C> {
+/// How many of those wanted a part has always.
+fn listed_count<C>(part: &Part<C>) -> usize {
     match part.source {
-        Source::Listed(cases) => cases(),
-        Source::Drawn { .. } => Vec::new(),
+        Source::Listed(cases) => cases().len(),
+        Source::Every(_) | Source::Drawn { .. } => 0,
     }
 }
 

@@ -9,10 +9,12 @@ use crate::random::Random;
 use second::Tidied;
 use std::fmt::Write;
 
-/// Which lengths of buffer a text is tidied with.
+/// Which lengths of buffer a call is tried with.
 #[derive(Clone, Copy, Debug)]
 pub enum Rooms {
-    /// One that is enough and one that is too short.
+    /// Exactly enough.
+    One,
+    /// Some that are enough and some that are too short.
     Few,
     /// None at all, any that is too short, one byte short, exact, some more,
     /// and large.
@@ -25,6 +27,7 @@ impl Rooms {
         let short = random.below(needed.max(1));
         let one_short = needed.saturating_sub(1);
         match self {
+            Rooms::One => vec![needed],
             Rooms::Few => vec![
                 needed + random.pick(&[0, 0, 1, 100]),
                 random.pick(&[short, one_short]),

@@ -10,6 +10,7 @@ pub fn draw(rooms: Rooms, needed: [usize; 2], random: &mut Random) -> Vec<[usize
     let [table_one_short, ledger_one_short] = needed.map(|needed| needed.saturating_sub(1));
     let [table_enough, ledger_enough] = needed.map(|needed| needed + random.pick(&[0, 0, 1, 100]));
     match rooms {
+        Rooms::One => vec![needed],
         Rooms::Few => vec![
             [table_enough, ledger_enough],
             [random.pick(&[table_short, table_one_short]), ledger_enough],

@@ -18,6 +18,8 @@ use crate::tidying::Rooms;
 pub enum Source<C> {
     /// Always the same.
     Listed(fn() -> Vec<C>),
+    /// Always the same, and so many that they are counted beside those wanted.
+    Every(fn() -> Vec<C>),
     /// Drawn one at a time; the share is in parts of a hundred.
     Drawn {
         share: usize,
@@ -49,7 +51,7 @@ pub const PARTS: [Part<Case>; 13] = [
 ];
 
 /// They follow the others.
-pub const MERGE_PARTS: [Part<Triple>; 10] = [
+pub const MERGE_PARTS: [Part<Triple>; 11] = [
     listed("merge-letters", merges::letters::triples).in_many_rooms(),
     listed("merge-limits", merges::limits::triples),
     drawn("merge-edits", 24, merges::edited::draw).in_many_rooms(),
@@ -60,6 +62,7 @@ pub const MERGE_PARTS: [Part<Triple>; 10] = [
     drawn("merge-refused", 18, merges::damaged::draw),
     drawn("merge-damaged", 5, merges::damaged::draw_loose),
     drawn("merge-large", 3, merges::large::draw),
+    every("merge-every", merges::every::triples),
 ];
 
 const fn listed<C>(name: &'static str, cases: fn() -> Vec<C>) -> Part<C> {
@@ -67,6 +70,15 @@ const fn listed<C>(name: &'static str, cases: fn() -> Vec<C>) -> Part<C> {
         name,
         source: Source::Listed(cases),
         rooms: Rooms::Few,
+    }
+}
+
+/// In one room, so that they can be so many.
+const fn every<C>(name: &'static str, cases: fn() -> Vec<C>) -> Part<C> {
+    Part {
+        name,
+        source: Source::Every(cases),
+        rooms: Rooms::One,
     }
 }
 

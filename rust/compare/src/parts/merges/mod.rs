@@ -5,6 +5,7 @@ pub mod clashes;
 pub mod damaged;
 pub mod disjoint;
 pub mod edited;
+pub mod every;
 pub mod large;
 pub mod letters;
 pub mod limits;
