@@ -1,5 +1,7 @@
--- The three demands on a call of merge that keeps its promise, `Merges`: here a visitor begins. `old`, `first` and `second` are the texts
--- handed in, `table` and `ledger` the lent buffers before the call; a name with a prime is a buffer after it. Assumes nothing.
+-- The three demands on the call of merge: here a visitor begins. `merge` and its export (crates/brooksaddle/src/lib.rt) ask nothing, and
+-- ensure `Merges` of the texts handed in, the five numbers answered and the two lent buffers; what follows holds of every such call. `old`,
+-- `first` and `second` are the texts, `table` and `ledger` the buffers before the call; a name with a prime is a buffer after it. Assumes
+-- nothing.
 use mathlib.Core.Path.{_≡_, refl, sym, ap, _∙_}
 use mathlib.Core.Logic.{_↔_}
 use mathlib.Core.List.{List, [], _∷_}
@@ -17,6 +19,7 @@ use Rattle.rules.specs.Calls.{Outcome, done, mergeOutcome, answerOf, told, tabl
 use Rattle.rules.specs.Promises.{Merges}
 use Rattle.rules.specs.Demands.{Within, Tables, Answered, tradedOutcome}
 use Rattle.rules.specs.declared.answers.Merged.{Merged}
+use Rattle.rules.proofs.Settled.{merge-settled}
 use Rattle.demands.proofs.Reading.{old-unread, branch-unread, done-read}
 use Rattle.demands.proofs.Coded.{texts-coded, zero-done}
 use Rattle.demands.proofs.Swapping.{traded-answer, traded-table}
@@ -32,6 +35,19 @@ pub record Wrote (table ledger : List ℕ) (answer : Merged) (table′ ledger′
   -- "A table written and read back is the same tree."
   pub read-back : verdict (take (answer .«table_length») table′) ≡ readable (rows TOP f)
   pub same-tree : treeOf (rows TOP f) ≡ f
+
+-- ---- demand 1: "Every byte string is answered." There is an outcome that keeps the promise, and no other one does
+
+pub demand1-answered : (old first second table ledger : List ℕ)
+    → (answer : Merged) × (table′ : List ℕ) × (ledger′ : List ℕ) × Merges old first second table ledger answer table′ ledger′
+demand1-answered old first second table ledger =
+    let end = mergeOutcome old first second table ledger in
+    (answerOf end, tableAfter end table, ledgerAfter end ledger, record { answered = refl; tabled = refl; ledgered = refl })
+
+pub demand1-one : (old first second table ledger : List ℕ) (a b : Merged) (table₁ table₂ ledger₁ ledger₂ : List ℕ)
+    → Merges old first second table ledger a table₁ ledger₁ → Merges old first second table ledger b table₂ ledger₂
+    → (a ≡ b) × (table₁ ≡ table₂) × (ledger₁ ≡ ledger₂)
+demand1-one = merge-settled
 
 module _ (old first second table ledger : List ℕ) (answer : Merged) (table′ ledger′ : List ℕ)
     (call : Merges old first second table ledger answer table′ ledger′) where
