@@ -3,7 +3,7 @@
 // 65,535.
 use brooksaddle::check;
 use brooksaddle::content;
-use cases::case_end;
+use cases::part_end;
 use cases::print;
 use cases::print_line;
 use libc::STDIN_FILENO;
@@ -23,7 +23,7 @@ fn tell(text: &[u8]) {
 fn tell_all(cases: &[u8]) {
     let mut at = 0;
     while at < cases.len() {
-        let end = case_end(cases, at);
+        let end = part_end(cases, at);
         tell(&cases[at..end]);
         at = end + 1;
     }

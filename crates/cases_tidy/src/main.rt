@@ -4,53 +4,18 @@
 // and how many bytes of the buffer are not as expected: as they were before the call the first and the third time, as the first call left
 // them the second time. Below the line of the first call stand the bytes that it wrote, and two more.
 use brooksaddle::tidy;
-use cases::case_end;
+use cases::FILLER;
+use cases::ROOM;
+use cases::differing;
+use cases::fitting;
+use cases::part_end;
 use cases::print;
-use cases::print_line;
+use cases::print_written;
 use libc::STDIN_FILENO;
 use rules::answers::Tidied;
-ghost use Prim.Native.Nat.{_≤_};
-ghost use Rattle.io.specs.Counts.{Counts};
 
 // Holds all cases.
 const CASES: usize = 262144;
-
-// A buffer is longer than any table, by more than is shown past it.
-const ROOM: usize = 32776;
-
-// Each byte of a buffer before it is lent.
-const FILLER: u8 = b'.';
-
-// So many bytes past the length are shown.
-const SHOWN_PAST: usize = 2;
-
-// So many bytes of a buffer, or all if it has fewer: no length that is told is trusted.
-fn fitting(n: usize, buffer: &[u8]) -> usize
-    ensures { λ r. ⌜ Counts r (now (buffer .entry)) ⌝ }
-{
-    if n < buffer.len() {
-        return n;
-    }
-    buffer.len()
-}
-
-// 0 for equal bytes, otherwise 1.
-fn unlike(byte: u8, other: u8) -> u64
-    ensures { λ r. ⌜ r ≤ 1 ⌝ }
-{
-    if byte == other { 0 } else { 1 }
-}
-
-// How many bytes of a buffer are not as expected.
-fn differing(buffer: &[u8; ROOM], expected: &[u8; ROOM]) -> u64 {
-    let mut count = 0;
-    let mut at = 0;
-    while at < ROOM {
-        count += unlike(buffer[at], expected[at]);
-        at += 1;
-    }
-    count
-}
 
 fn print_answer(answer: Tidied, differing: u64) {
     print(answer.code as u64, b"\t");
@@ -71,10 +36,9 @@ fn tell(text: &[u8]) {
     let filled = [FILLER; ROOM];
     let mut buffer = [FILLER; ROOM];
     let answer = tidy(text, &mut buffer);
+    let length = answer.length;
     print_answer(answer, differing(&buffer, &filled));
-    let length = fitting(answer.length, &buffer);
-    let shown = fitting(length + SHOWN_PAST, &buffer);
-    print_line(&buffer[..shown]);
+    print_written(&buffer, length);
     tell_in(text, length, &buffer);
     if 0 < length {
         tell_in(text, length - 1, &filled);
@@ -84,7 +48,7 @@ fn tell(text: &[u8]) {
 fn tell_all(cases: &[u8]) {
     let mut at = 0;
     while at < cases.len() {
-        let end = case_end(cases, at);
+        let end = part_end(cases, at);
         tell(&cases[at..end]);
         at = end + 1;
     }

@@ -6,7 +6,7 @@ use Rattle.cases_check.proofs.tell_all.Statement.{statement}
 use Rattle.cases_check.proofs.tell_all.Tie as tie
 use Rattle.cases_check.proofs.tell_all.Reads as reads
 use Rattle.cases_check.proofs.tell_all.Lts as lts
-use Rattle.cases.proofs.case_end.Reads as case-end-reads
+use Rattle.cases.proofs.part_end.Reads as part-end-reads
 use Rattle.cases_check.proofs.tell.Reads as tell-reads
 
 abbrev Inv-loop : tie.InvT-loop
@@ -20,8 +20,8 @@ loop-holds : tie.Need-loop-holds Inv-loop μ-loop
 loop-holds c = search needs
 
 -- src/main.rt:26:13
-case-end-requires : tie.Need-case-end-requires Inv-loop μ-loop
-case-end-requires c κs = search needs
+part-end-requires : tie.Need-part-end-requires Inv-loop μ-loop
+part-end-requires c κs = search needs
 
 -- src/main.rt:27:14
 sub-tell : tie.Need-sub-tell Inv-loop μ-loop
@@ -62,7 +62,7 @@ tell-all-spec =
     Inv-loop
     μ-loop
     loop-holds
-    case-end-requires
+    part-end-requires
     sub-tell
     part-tell-start
     part-tell-end

@@ -6,7 +6,7 @@ use Rattle.cases_tidy.proofs.tell_all.Statement.{statement}
 use Rattle.cases_tidy.proofs.tell_all.Tie as tie
 use Rattle.cases_tidy.proofs.tell_all.Reads as reads
 use Rattle.cases_tidy.proofs.tell_all.Lts as lts
-use Rattle.cases.proofs.case_end.Reads as case-end-reads
+use Rattle.cases.proofs.part_end.Reads as part-end-reads
 use Rattle.cases_tidy.proofs.tell.Reads as tell-reads
 
 abbrev Inv-loop : tie.InvT-loop
@@ -15,43 +15,43 @@ Inv-loop cases at₀ at = Unit {0}
 abbrev μ-loop : tie.MeasureT-loop
 μ-loop cases at₀ at = length cases - at
 
--- src/main.rt:86:5
+-- src/main.rt:50:5
 loop-holds : tie.Need-loop-holds Inv-loop μ-loop
 loop-holds c = search needs
 
--- src/main.rt:87:13
-case-end-requires : tie.Need-case-end-requires Inv-loop μ-loop
-case-end-requires c κs = search needs
+-- src/main.rt:51:13
+part-end-requires : tie.Need-part-end-requires Inv-loop μ-loop
+part-end-requires c κs = search needs
 
--- src/main.rt:88:14
+-- src/main.rt:52:14
 sub-tell : tie.Need-sub-tell Inv-loop μ-loop
 sub-tell c = search needs
 
--- src/main.rt:88:14
+-- src/main.rt:52:14
 part-tell-start : tie.Need-part-tell-start Inv-loop μ-loop
 part-tell-start c = search needs
 
--- src/main.rt:88:14
+-- src/main.rt:52:14
 part-tell-end : tie.Need-part-tell-end Inv-loop μ-loop
 part-tell-end c = search needs
 
--- src/main.rt:88:9
+-- src/main.rt:52:9
 tell-requires : tie.Need-tell-requires Inv-loop μ-loop
 tell-requires c κs = search needs
 
--- src/main.rt:89:14
+-- src/main.rt:53:14
 add-at : tie.Need-add-at Inv-loop μ-loop
 add-at c = search needs
 
--- src/main.rt:86:5
+-- src/main.rt:50:5
 loop-less : tie.Need-loop-less Inv-loop μ-loop
 loop-less c = search needs
 
--- src/main.rt:86:5
+-- src/main.rt:50:5
 loop-again : tie.Need-loop-again Inv-loop μ-loop
 loop-again c = search needs
 
--- src/main.rt:84:1
+-- src/main.rt:48:1
 returns : tie.Need-returns Inv-loop μ-loop
 returns c = search needs
 
@@ -62,7 +62,7 @@ tell-all-spec =
     Inv-loop
     μ-loop
     loop-holds
-    case-end-requires
+    part-end-requires
     sub-tell
     part-tell-start
     part-tell-end

@@ -6,19 +6,19 @@ use lib.ListN.{length}
 use lib.Seq.{length-take-le}
 use borrow.Author.Needs.{needs}
 use Rattle.io.specs.Counts.{Counts}
-use Rattle.cases_tidy.proofs.fitting.Statement.{statement}
-use Rattle.cases_tidy.proofs.fitting.Tie as tie
-use Rattle.cases_tidy.proofs.fitting.Reads as reads
-use Rattle.cases_tidy.proofs.fitting.Lts as lts
+use Rattle.cases.proofs.fitting.Statement.{statement}
+use Rattle.cases.proofs.fitting.Tie as tie
+use Rattle.cases.proofs.fitting.Reads as reads
+use Rattle.cases.proofs.fitting.Lts as lts
 
 counts : (n : ℕ) (xs : List ℕ) → n ≤ length xs → Counts n xs
 counts n xs within = (within, sym (length-take-le n xs within))
 
--- src/main.rt:32:9
+-- src/lib.rt:50:9
 returns : tie.Need-returns
 returns c = counts (c .before .args .n) (c .before .args .buffer .now) (search needs)
 
--- src/main.rt:28:1
+-- src/lib.rt:46:1
 returns-2 : tie.Need-returns-2
 returns-2 c = counts (length (c .before .args .buffer .now)) (c .before .args .buffer .now) (search needs)
 
