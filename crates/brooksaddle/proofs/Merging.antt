@@ -12,10 +12,10 @@ use Rattle.rules.specs.Table.{numbers, readable, verdict}
 use Rattle.rules.specs.Calls.{Outcome, notRead, tooLarge, onceAllRead, mergeTables, mergeTexts, told, answerOf, tableAfter, ledgerAfter}
 use Rattle.rules.specs.Promises.{Merges}
 use Rattle.rules.specs.declared.answers.Merged.{Merged}
+use Rattle.trees.proofs.OneTable.{number-row}
 use Rattle.readback.proofs.Following.{good-few}
 use Rattle.readback.proofs.Accepting.{good}
 use Rattle.facts.specs.Memory.{TABLES, PLACE, SPAN, field, noLines, noFacts}
-use Rattle.facts.proofs.Shown.{number-row}
 use Rattle.table.specs.declared.Refusal.{Refusal}
 use Rattle.table.specs.Read.{Unread}
 use Rattle.table.specs.All.{AllRead, ReadsAll}

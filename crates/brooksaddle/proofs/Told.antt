@@ -26,13 +26,12 @@ use Rattle.readback.proofs.Parts.{part-none, part-content, part-within}
 use Rattle.facts.specs.Memory.{ROOM, PLACE, LENGTH, SPAN, startOf, textOf, lineAt, field}
 use Rattle.facts.specs.Asked.{hasIn}
 use Rattle.facts.specs.Holds.{Holds}
-use Rattle.facts.proofs.Shown.{number-row}
 use Rattle.rules.specs.declared.answers.Part.{Part}
 use Rattle.table.specs.declared.Read.{Read}
 use Rattle.table.specs.Read.{readTold, Reads}
 use Rattle.write.specs.Stored.{partIn, Lies, HasContent, contentAt, Stored}
 use Rattle.write.specs.Writing.{TableReady, TableWritten}
-use Rattle.trees.proofs.OneTable.{row-number}
+use Rattle.trees.proofs.OneTable.{number-row, row-number}
 use Rattle.depth.specs.Climbing.{greatestOn, Climbs}
 use Rattle.depth.proofs.Greatest.{climbs, greatest}
 

@@ -9,15 +9,14 @@ use lib.Dec.{T, T-not, not-T}
 use Rattle.rules.specs.Lists.{_∈_, any}
 use Rattle.rules.specs.Line.{Content}
 use Rattle.rules.specs.Marks.{TOP, START}
-use Rattle.rules.specs.Tree.{Tree, STEPS, numbersIn, rows}
-use Rattle.rules.specs.Facts.{ContentFact, Facts, contentFact, contentOf, treeContents, sameContentFact, lacking}
+use Rattle.rules.specs.Tree.{Tree, STEPS, numbersIn}
+use Rattle.rules.specs.Facts.{ContentFact, Facts, contentFact, treeContents, sameContentFact, lacking}
 use Rattle.rules.specs.Merge.{contentEdits, contentClashes, keptPositions, keptContents, contentIn, follower, walk, mergedTree}
 use Rattle.trees.proofs.Lists.{keep-in, keep-out}
 use Rattle.trees.proofs.Kept.{has-in, has-out}
 use Rattle.trees.proofs.Disagreeing.{recordOf, content-tells}
-use Rattle.trees.proofs.Trees.{numbers-rows, contents-rows}
 use Rattle.trees.proofs.Walk.{position-to, walk-content}
-use Rattle.facts.proofs.Shown.{number-row}
+use Rattle.trees.proofs.TableTree.{number-content}
 use Rattle.edits.proofs.Branches.{IsBranch}
 use Rattle.contents.specs.Contents.{Told, freshContent}
 use Rattle.contents.proofs.Clashing.{ContentViews, fresh-out, fresh-edit, edit-fresh, one-edit}
@@ -44,10 +43,9 @@ walk-holding next content k r p = record { of = of; all = all }
 
     all : (n : ℕ) → n ∈ numbersIn f → contentFact n (content n) ∈ treeContents f
     all n m =
-        let x = number-row (rows r f) n (subst (λ (l : List ℕ). n ∈ l) (sym (numbers-rows r f)) m) in
-        let there = subst (λ (l : List ContentFact). contentOf (x .0) ∈ l) (contents-rows r f) (Memᴰ·map contentOf (x .1)) in
-        let e : x .0 .content ≡ content n = given (contentOf (x .0)) there ∙ ap content (x .2) in
-        Memᴰ·cast (λ i. contentFact (sym (x .2) i) (sym e i)) there
+        let w = number-content f n m in
+        let e : w .0 .content ≡ content n = given (w .0) (w .1) ∙ ap content (w .2) in
+        Memᴰ·cast (λ i. contentFact (sym (w .2) i) (sym e i)) (w .1)
 
 pub merged-holding : (old : Facts) (branches : List Facts)
     → Holding (treeContents (mergedTree old branches)) (contentIn (keptContents old branches)) (numbersIn (mergedTree old branches))

@@ -6,7 +6,7 @@ use mathlib.Core.Bool.{Bool, cond}
 use mathlib.Core.List.{List, [], _∷_, map, Memᴰ·cast, Memᴰ·map, Memᴰ·of-map}
 use Prim.Native.Nat.{ℕ, zero, suc, _+_, _*_, _<_, _≤_}
 use native.Mathlib.Omega.{arith}
-use lib.Dec.{T, ltb→lt, lt→ltb}
+use lib.Dec.{T}
 use lib.ListN.{length, getD, take, drop, length-map}
 use borrow.Author.Tests.{le-leb}
 use Rattle.rules.specs.Lists.{_∈_}
@@ -15,11 +15,11 @@ use Rattle.rules.specs.Line.{Row}
 use Rattle.rules.specs.Table.{numbers}
 use Rattle.rules.specs.Facts.{ContentFact, contentsOf, contentFact, contentOf, factsOf}
 use Rattle.rules.specs.Merge.{contentClashes, keptContents, contentIn}
-use Rattle.trees.proofs.OneTable.{row-number}
+use Rattle.trees.proofs.OneTable.{number-record, number-row, row-number}
 use Rattle.trees.proofs.Disagreeing.{recordOf}
-use Rattle.facts.specs.Memory.{TABLES, PLACE, LENGTH, SPAN, TEXTS, startOf, textOf, originOf, lineAt, field}
+use Rattle.facts.specs.Memory.{TABLES, PLACE, LENGTH, SPAN, TEXTS, startOf, textOf, originOf, field}
 use Rattle.facts.specs.Asked.{hasIn}
-use Rattle.facts.proofs.Shown.{number-row}
+use Rattle.facts.proofs.Shown.{has-number, number-has}
 use Rattle.edits.specs.Memory.{ask, numberOn}
 use Rattle.edits.proofs.Clashing.{Views}
 use Rattle.edits.proofs.Leasts.{Met}
@@ -58,11 +58,8 @@ module _ (text ls fs : List ℕ) (t : List Row) (m : Stored (text ∷ []) ls fs 
         rw (le-leb (start + long) (length text) row-within)
         (sym (m .contents x i ∙ (λ j. take long (drop (row-start j) (getD (text ∷ []) (first j) [])))))
 
-  pub number-has : (n : ℕ) → n ∈ numbers t → T (hasIn ls n)
-  number-has n i = lt→ltb 0 (lineAt ls n) (m .holds .known n i)
-
-  pub has-row : (n : ℕ) → T (hasIn ls n) → (x : Row) × (x ∈ t) × (x .number ≡ n)
-  has-row n h = number-row t n (m .holds .only n (ltb→lt 0 (lineAt ls n) h))
+  has-row : (n : ℕ) → T (hasIn ls n) → (x : Row) × (x ∈ t) × (x .number ≡ n)
+  has-row n h = number-row t n (has-number ls fs t (m .holds) n h)
 
   -- what memory tells of the table
   abbrev told : Told
@@ -76,7 +73,7 @@ module _ (text ls fs : List ℕ) (t : List Row) (m : Stored (text ∷ []) ls fs 
           let x = Memᴰ·of-map contentOf t i in
           let n : x .0 .number ≡ a .number = ap recordOf (x .2) in
           let c : x .0 .content ≡ a .content = ap (λ (b : ContentFact). b .content) (x .2) in (
-            subst (λ (j : ℕ). T (hasIn ls j)) n (number-has (x .0 .number) (row-number t (x .0) (x .1))),
+            subst (λ (j : ℕ). T (hasIn ls j)) n (number-has ls fs t (m .holds) (x .0 .number) (row-number t (x .0) (x .1))),
             ap (told .content) (sym n) ∙ row-cut (x .0) (x .1) ∙ c,
           )
 
@@ -87,8 +84,7 @@ module _ (text ls fs : List ℕ) (t : List Row) (m : Stored (text ∷ []) ls fs 
           Memᴰ·cast (λ j. contentFact (sym (x .2) j) (c j)) (Memᴰ·map contentOf (x .1))
 
       record-has : (n : ℕ) → T (hasIn ls n) → T (isRecord n)
-      record-has n h =
-          let x = has-row n h in subst (λ (j : ℕ). T (isRecord j)) (x .2) (m .readable .distinct .valid (x .0) (x .1))
+      record-has n h = number-record t (m .readable .distinct) n (has-number ls fs t (m .holds) n h)
 
 -- ---- all tables
 

@@ -1,23 +1,22 @@
 -- The greatest depth that climbing finds in memory is that of the table which memory holds. ls and fs are the arrays, t is the table, x
 -- a row, n a record, l and k are lines. Assumes nothing.
-use mathlib.Core.Path.{_≡_, refl, sym, ap, _∙_, subst}
-use mathlib.Core.List.{List, _∷_, List·Memᴰ·head as here, List·Memᴰ·tail as there, Memᴰ·map, Memᴰ·of-map}
+use mathlib.Core.Path.{_≡_, refl, sym, ap, _∙_}
+use mathlib.Core.List.{List, _∷_, List·Memᴰ·head as here, List·Memᴰ·tail as there}
 use Prim.Native.Nat.{ℕ, zero, suc, max, _+_, _*_, _<_, _≤_}
 use native.Mathlib.Omega.{arith}
 use native.Mathlib.Decide.{ℕ-discrete}
-use lib.Dec.{T}
 use lib.ListN.{getD, length}
 use Rattle.rules.specs.Lists.{_∈_}
-use Rattle.rules.specs.Marks.{TOP, isRecord}
+use Rattle.rules.specs.Marks.{TOP}
 use Rattle.rules.specs.Line.{Row}
 use Rattle.rules.specs.Table.{numbers}
 use Rattle.rules.specs.Tree.{greatestDepth}
 use Rattle.rules.specs.Demands.{Readable}
 use Rattle.trees.proofs.Deepest.{depthIn, depth-top, depth-one, greatest-each, greatest-least}
-use Rattle.trees.proofs.Disagreeing.{numberOf}
+use Rattle.trees.proofs.OneTable.{number-row, row-number}
 use Rattle.facts.specs.Memory.{ROOM, WIDTH, NUMBER, PARENT, lineAt, field}
 use Rattle.facts.specs.Holds.{Holds}
-use Rattle.facts.proofs.Shown.{row-parent, row-parent-field}
+use Rattle.facts.proofs.Shown.{row-parent, row-parent-field, top-line}
 use Rattle.depth.specs.Climbing.{upLine, depthOn, greatestOn, Climbs}
 use Rattle.depth.proofs.Climbs.{climb-top, climb-more}
 
@@ -44,28 +43,19 @@ module _ (ls fs : List ℕ) (t : List Row) (h : Holds ls fs t) (r : Readable t) 
   climbs-to : (l : ℕ) → l ≤ length t → Climbs ls fs l
   climbs-to l b = record { room = omega arith; up = λ k p q. climbs .up k p (omega arith) }
 
-  top-line : lineAt ls TOP ≡ 0
-  top-line = go (ℕ-discrete (lineAt ls TOP) 0)
-    where
-      go : Dec (lineAt ls TOP ≡ 0) → lineAt ls TOP ≡ 0
-      go (yes e) = e
-      go (no e) =
-          let w = Memᴰ·of-map numberOf t (h .only TOP (omega arith)) in
-          absurd (subst (λ (n : ℕ). T (isRecord n)) (w .2) (r .distinct .valid (w .0) (w .1)))
-
   -- a record's depth is that of its line
   line-depth : (b n : ℕ) → lineAt ls n < b → n ∈ TOP ∷ numbers t → depthOn ls fs (lineAt ls n) ≡ depthIn t r n
   line-depth zero n a m = absurd (omega arith)
   line-depth (suc b) n a (here e) =
-      let z : lineAt ls n ≡ 0 = ap (lineAt ls) e ∙ top-line in
+      let z : lineAt ls n ≡ 0 = ap (lineAt ls) e ∙ top-line ls fs t h r in
       sym (climb-top ls fs (lineAt ls n) z) ∙ sym (depth-top t r) ∙ ap (depthIn t r) (sym e)
-  line-depth (suc b) n a (there m) = go (line-depth b) (Memᴰ·of-map numberOf t m)
+  line-depth (suc b) n a (there m) = go (line-depth b) (number-row t n m)
     where
       l : ℕ
       l = lineAt ls n
 
       go : ((k : ℕ) → lineAt ls k < b → k ∈ TOP ∷ numbers t → depthOn ls fs (lineAt ls k) ≡ depthIn t r k)
-          → (x : Row) × (x ∈ t) × (numberOf x ≡ n) → depthOn ls fs l ≡ depthIn t r n
+          → (x : Row) × (x ∈ t) × (x .number ≡ n) → depthOn ls fs l ≡ depthIn t r n
       go ih w =
           let x = w .0 in
           let parent : field ls fs n PARENT ≡ x .parent =
@@ -91,7 +81,7 @@ module _ (ls fs : List ℕ) (t : List Row) (h : Holds ls fs t) (r : Readable t) 
   none-deeper zero b = omega arith
   none-deeper (suc l) b =
       let m = on-known (suc l) (omega arith) b in
-      let w = Memᴰ·of-map numberOf t m in
+      let w = number-row t (on (suc l)) m in
       let e = h .lined (suc l) b in
       let d : depthOn ls fs (suc l) ≡ depthIn t r (w .0 .number) =
       ap (depthOn ls fs) (sym e) ∙ line-depth (suc (lineAt ls (on (suc l)))) (on (suc l)) (omega arith) (there m)
@@ -102,7 +92,7 @@ module _ (ls fs : List ℕ) (t : List Row) (h : Holds ls fs t) (r : Readable t) 
   greatest =
       let p = none-deeper (length t) (omega arith) in
       let q = greatest-least t r (greatestOn ls fs (length t)) (λ x m.
-      let k = Memᴰ·map numberOf m in
+      let k = row-number t x m in
       let d = line-depth (suc (lineAt ls (x .number))) (x .number) (omega arith) (there k) in
       omega (arith, d, line-in (lineAt ls (x .number)) (length t) (h .known (x .number) k) (h .few (x .number)))) in
       omega arith

@@ -19,8 +19,9 @@ use Rattle.rules.specs.Line.{Row}
 use Rattle.rules.specs.Table.{numbers}
 use Rattle.rules.specs.Tree.{childNumbers}
 use Rattle.rules.specs.Demands.{Readable}
+use Rattle.trees.proofs.Lists.{last-among}
 use Rattle.trees.proofs.Marks.{record-high}
-use Rattle.trees.proofs.OneTable.{child-number, child-record}
+use Rattle.trees.proofs.OneTable.{child-number, child-record, number-row}
 use Rattle.trees.proofs.LineByLine.{children-more}
 use Rattle.facts.specs.Memory.{NUMBERS, ROOM, WIDTH, NUMBER, PARENT, FORERUNNER, FOLLOWER, FIRST, LAST, PLACE, LENGTH}
 use Rattle.facts.specs.Memory.{lineAt, field, who, way, laid, addLine, addFacts}
@@ -28,7 +29,7 @@ use Rattle.facts.specs.Holds.{Strung, Holds, partAt}
 use Rattle.facts.proofs.Laying.{laid-in, laid-before, laid-length}
 use Rattle.facts.proofs.Strings.{Aside, Grown, Hung, way-is, known-who, aside-same, strung-end, strung-last, grown, framed}
 use Rattle.facts.proofs.Strings.{started}
-use Rattle.facts.proofs.Shown.{number-row, row-parent, row-parent-field, top-line}
+use Rattle.facts.proofs.Shown.{row-parent, row-parent-field, top-line}
 use Rattle.facts.proofs.OneMore.{childless, children-other, known-cases, not-new, number-cases, number-new, number-old}
 
 -- two places in the array are one only if line and field are
@@ -119,11 +120,8 @@ module _ (ls fs : List ℕ) (t : List Row) (y : Row) (l start long : ℕ) (h : H
 
   last-known : (p ≡ START) ⊎ Known p
   last-known =
-      subst (λ (b : ℕ). (b ≡ START) ⊎ Known b) (sym last-is) (go START (childNumbers r t) (λ k m. child-known r k m .0) (inl refl))
-    where
-      go : (b : ℕ) (ks : List ℕ) → ((k : ℕ) → k ∈ ks → Known k) → (b ≡ START) ⊎ Known b → (last b ks ≡ START) ⊎ Known (last b ks)
-      go b [] f s = s
-      go b (k ∷ ks) f s = go k ks (λ j m. f j (there m)) (inr (f k (here refl)))
+      subst (λ (b : ℕ). (b ≡ START) ⊎ Known b) (sym last-is)
+      (last-among (λ b. (b ≡ START) ⊎ Known b) START (childNumbers r t) (λ k m. inr (child-known r k m .0)) (inl refl))
 
   who-is : Known (who r p)
   who-is = known-who Known r p under last-known

@@ -3,7 +3,7 @@
 use mathlib.Core.Path.{_≡_, refl, sym, ap, _∙_, subst}
 use mathlib.Core.Logic.{_⊎_, inl, inr, _↔_}
 use mathlib.Core.Bool.{Bool, true, false, cond}
-use mathlib.Core.List.{List, [], _∷_, List·Memᴰ·head as here, List·Memᴰ·tail as there, Memᴰ·cast, Memᴰ·of-map, List·Memᴰ·not-nil}
+use mathlib.Core.List.{List, [], _∷_, List·Memᴰ·head as here, List·Memᴰ·tail as there, Memᴰ·cast, List·Memᴰ·not-nil}
 use Prim.Native.Nat.{ℕ, _<_}
 use native.Mathlib.Omega.{arith}
 use native.Mathlib.Decide.{ℕ-discrete}
@@ -20,10 +20,9 @@ use Rattle.rules.specs.Facts.{PositionFact, factsOf, listFacts, position}
 use Rattle.rules.specs.Demands.{Readable}
 use Rattle.trees.proofs.Lists.{or-left, or-right, is-true}
 use Rattle.trees.proofs.Marks.{record-low, record-high}
-use Rattle.trees.proofs.Disagreeing.{numberOf}
 use Rattle.trees.proofs.OneTable.{child-number, child-record, in-table, list-after, list-before, list-follower, list-in, list-of}
-use Rattle.trees.proofs.OneTable.{list-parent, row-child, row-number}
-use Rattle.trees.proofs.LineByLine.{rooted-parent}
+use Rattle.trees.proofs.OneTable.{list-parent, number-record, number-row, row-child, row-number}
+use Rattle.trees.proofs.LineByLine.{open-before, open-list, rooted-parent}
 use Rattle.facts.specs.Memory.{PARENT, FORERUNNER, FOLLOWER, FIRST, LAST, lineAt, field, who, way}
 use Rattle.facts.specs.Holds.{Holds}
 use Rattle.facts.specs.Asked.{hasIn, listIn, childIn, afterIn, beforeIn, asked}
@@ -52,14 +51,9 @@ list-end r p (n ∷ ns) = there (list-end r n ns)
 
 -- every child comes after something
 list-forerunner : (r p s : ℕ) (ns : List ℕ) → s ∈ ns → (b : ℕ) × (position r b s ∈ listFacts r p ns)
-list-forerunner r p s [] m = absurd (List·Memᴰ·not-nil m)
-list-forerunner r p s (n ∷ ns) (here e) = (p, here (ap (position r p) e))
-list-forerunner r p s (n ∷ ns) (there m) = let w = list-forerunner r n s ns m in (w .0, there (w .1))
+list-forerunner r p s ns m = let w = open-before r p s ns m in (w .0, open-list r p ns (position r (w .0) s) (w .1))
 
 -- ---- the rows of a table
-
-pub number-row : (t : List Row) (n : ℕ) → n ∈ numbers t → (x : Row) × (x ∈ t) × (x .number ≡ n)
-number-row t n m = let w = Memᴰ·of-map numberOf t m in (w .0, w .1, w .2)
 
 pub fact-parent : (t : List Row) (a : PositionFact) → a ∈ factsOf t .positions → a .parent ∈ TOP ∷ numbers t
 fact-parent t a m =
@@ -68,6 +62,15 @@ fact-parent t a m =
 
 pub row-parent : (t : List Row) → Readable t → (x : Row) → x ∈ t → x .parent ∈ TOP ∷ numbers t
 row-parent t ok x m = rooted-parent (numbers t) [] t (λ n j. absurd (List·Memᴰ·not-nil j)) (row-number t) (ok .rooted) x m
+
+-- ---- the records that memory knows are the table's
+
+module _ (ls fs : List ℕ) (t : List Row) (h : Holds ls fs t) where
+  pub number-has : (n : ℕ) → n ∈ numbers t → T (hasIn ls n)
+  number-has n m = lt→ltb 0 (lineAt ls n) (h .known n m)
+
+  pub has-number : (n : ℕ) → T (hasIn ls n) → n ∈ numbers t
+  has-number n i = h .only n (ltb→lt 0 (lineAt ls n) i)
 
 module _ (ls fs : List ℕ) (t : List Row) (h : Holds ls fs t) (ok : Readable t) where
   abbrev get : ℕ → ℕ → ℕ
@@ -97,31 +100,23 @@ module _ (ls fs : List ℕ) (t : List Row) (h : Holds ls fs t) (ok : Readable t)
     where
       go : Dec (lineAt ls TOP ≡ 0) → lineAt ls TOP ≡ 0
       go (yes e) = e
-      go (no e) =
-          let w = number-row t TOP (h .only TOP (omega arith)) in
-          absurd (subst (λ (m : ℕ). T (isRecord m)) (w .2) (ok .distinct .valid (w .0) (w .1)))
-
-  has-yes : (n : ℕ) → n ∈ numbers t → T (hasIn ls n)
-  has-yes n m = lt→ltb 0 (lineAt ls n) (h .known n m)
-
-  yes-has : (n : ℕ) → T (hasIn ls n) → n ∈ numbers t
-  yes-has n i = h .only n (ltb→lt 0 (lineAt ls n) i)
+      go (no e) = absurd (number-record t (ok .distinct) TOP (h .only TOP (omega arith)))
 
   list-yes : (r : ℕ) → Parent r → T (listIn ls r)
   list-yes r (here e) = or-left (eqb r TOP) (hasIn ls r) (yes-eqb e)
-  list-yes r (there m) = or-right (eqb r TOP) (hasIn ls r) (has-yes r m)
+  list-yes r (there m) = or-right (eqb r TOP) (hasIn ls r) (number-has ls fs t h r m)
 
   pub yes-list : (r : ℕ) → T (listIn ls r) → r ∈ TOP ∷ numbers t
-  yes-list r i = elim (or-yes (eqb r TOP) (hasIn ls r) i) [ inl e ↦ here (eqb→eq r TOP e) | inr k ↦ there (yes-has r k) ]
+  yes-list r i = elim (or-yes (eqb r TOP) (hasIn ls r) i) [ inl e ↦ here (eqb→eq r TOP e) | inr k ↦ there (has-number ls fs t h r k) ]
 
   child-yes : (r n : ℕ) → Parent r → n ∈ children r → T (childIn ls fs r n)
   child-yes r n i m =
-      yes-and (hasIn ls n) (eqb (get n PARENT) r) (has-yes n (child-number t r n m)) (yes-eqb (child-parent r n i m))
+      yes-and (hasIn ls n) (eqb (get n PARENT) r) (number-has ls fs t h n (child-number t r n m)) (yes-eqb (child-parent r n i m))
 
   yes-child : (r n : ℕ) → T (childIn ls fs r n) → (n ∈ children r) × Parent r
   yes-child r n i =
       let both = and-yes (hasIn ls n) (eqb (get n PARENT) r) i in
-      let w = number-row t n (yes-has n (both .0)) in
+      let w = number-row t n (has-number ls fs t h n (both .0)) in
       let x = w .0 in
       let e : x .parent ≡ r =
       sym (row-parent-field x (w .1)) ∙ ap (λ (m : ℕ). get m PARENT) (w .2) ∙ eqb→eq (get n PARENT) r (both .1) in
@@ -244,7 +239,7 @@ module _ (ls fs : List ℕ) (t : List Row) (h : Holds ls fs t) (ok : Readable t)
       → T (hasIn ls n) × (get n PARENT ≡ a .parent)
   owns a m n i s =
       let k = named s in
-      (has-yes n (child-number t (a .parent) n k), child-parent (a .parent) n (fact-parent t a m) k)
+      (number-has ls fs t h n (child-number t (a .parent) n k), child-parent (a .parent) n (fact-parent t a m) k)
     where
       named : (n ≡ a .before) ⊎ (n ≡ a .after) → n ∈ childNumbers (a .parent) t
       named (inl e) = elim (before-is a m) [ inl d ↦ absurd (not-start n i (e ∙ d)) | inr k ↦ Memᴰ·cast e k ]

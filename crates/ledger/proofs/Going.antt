@@ -2,7 +2,7 @@
 -- number for each later state of it; `at` is the place of the next byte; n is who comes next in the list of r, a record or END. Assumes
 -- nothing.
 use mathlib.Core.Path.{_≡_, refl, sym, ap, _∙_, subst}
-use mathlib.Core.List.{List, [], _∷_, _++_, map, append-assoc}
+use mathlib.Core.List.{List, _++_, map, map-map, append-assoc}
 use Prim.Native.Nat.{ℕ, _+_, _-_, _*_, _<_, _≤_}
 use native.Mathlib.Omega.{arith}
 use lib.ListN.{length, length-append, length-map}
@@ -11,11 +11,11 @@ use borrow.Author.Needs.{needs}
 use Rattle.rules.specs.Lists.{flat}
 use Rattle.rules.specs.Marks.{TOP, END}
 use Rattle.rules.specs.Line.{Row}
-use Rattle.rules.specs.Table.{numbers}
 use Rattle.rules.specs.Tree.{numbersIn, rows, treeOf}
 use Rattle.rules.specs.Written.{over}
 use Rattle.rules.specs.Ledger.{Entry, entryLine, ledger}
 use Rattle.rules.specs.Demands.{Readable}
+use Rattle.trees.proofs.Disagreeing.{numberOf}
 use Rattle.trees.proofs.Trees.{numbers-rows}
 use Rattle.trees.proofs.SameRows.{rows-count}
 use Rattle.facts.specs.Memory.{ROOM, PARENT, FOLLOWER, FIRST, lineAt, field}
@@ -33,12 +33,8 @@ module _ (ls fs : List ℕ) where
   restOf count bytes ns = flat entryLine (map (entryAt ls fs) ns) ++ totalOf count bytes
 
   -- a table's entries, by its records
-  entries-are : (xs : List Row) → map (λ (x : Row). entryAt ls fs (x .number)) xs ≡ map (entryAt ls fs) (numbers xs)
-  entries-are [] = refl
-  entries-are (x ∷ xs) = ap (λ (es : List Entry). entryAt ls fs (x .number) ∷ es) (entries-are xs)
-
   pub entries-in : (t : List Row) → entriesIn ls fs t ≡ map (entryAt ls fs) (numbersIn (treeOf t))
-  entries-in t = entries-are (rows TOP (treeOf t)) ∙ ap (map (entryAt ls fs)) (numbers-rows TOP (treeOf t))
+  entries-in t = sym (map-map (entryAt ls fs) numberOf (rows TOP (treeOf t))) ∙ ap (map (entryAt ls fs)) (numbers-rows TOP (treeOf t))
 
   -- as many as the table has records
   pub entries-count : (t : List Row) → Readable t → length (entriesIn ls fs t) ≡ length t

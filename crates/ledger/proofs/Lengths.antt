@@ -2,7 +2,7 @@
 -- ls and fs are the two arrays, t is the table's rows, x a row, n a record, l a line, s the sums. Assumes nothing.
 use mathlib.Core.Path.{_≡_, refl, sym, ap, _∙_, subst}
 use mathlib.Core.List.{List, [], _∷_, map, List·Memᴰ·head as here, List·Memᴰ·tail as there, Memᴰ·cast, Memᴰ·map, Memᴰ·of-map}
-use mathlib.Core.List.{List·Memᴰ·not-nil}
+use mathlib.Core.List.{map-map, List·Memᴰ·not-nil}
 use Prim.Native.Nat.{ℕ, zero, suc, _+_, _*_, _<_, _≤_}
 use native.Mathlib.Omega.{arith}
 use native.Mathlib.Decide.{ℕ-discrete}
@@ -17,12 +17,12 @@ use Rattle.rules.specs.Written.{width, tidied, contentBytes, frameBytes}
 use Rattle.rules.specs.Ledger.{Entry, entryLine, totalLine, ledger}
 use Rattle.rules.specs.Demands.{Readable}
 use Rattle.trees.proofs.Disagreeing.{numberOf}
-use Rattle.trees.proofs.OneTable.{row-number}
+use Rattle.trees.proofs.OneTable.{number-row, row-number}
 use Rattle.trees.proofs.SameRows.{same-sum, rows-sum}
 use Rattle.readback.proofs.ReadBack.{written-length}
 use Rattle.facts.specs.Memory.{WIDTH, NUMBER, LENGTH, lineAt, field}
 use Rattle.facts.specs.Holds.{Holds}
-use Rattle.facts.proofs.Shown.{number-row, row-parent-field}
+use Rattle.facts.proofs.Shown.{row-parent-field}
 use Rattle.ledger.specs.declared.Sums.{Sums}
 use Rattle.ledger.specs.Entries.{entryAt, entriesIn, bytesIn, LedgerReady}
 use Rattle.ledger.specs.Sums.{frameLine, ledgerLine, lineBytes, sumTo, totalLength, sumsOf}
@@ -74,8 +74,7 @@ abbrev bare : ℕ → Row
 bare n = record { number = n; parent = TOP; content = [] }
 
 bare-numbers : (t : List Row) → numbers (map (λ (x : Row). bare (x .number)) t) ≡ numbers t
-bare-numbers [] = refl
-bare-numbers (x ∷ t) = ap (λ (ns : List ℕ). x .number ∷ ns) (bare-numbers t)
+bare-numbers t = map-map numberOf (λ (x : Row). bare (x .number)) t
 
 module _ (ls fs : List ℕ) (t : List Row) (h : Holds ls fs t) (ok : Readable t) where
   -- the record on a line

@@ -4,31 +4,28 @@
 use mathlib.Core.Path.{_≡_, sym, subst}
 use mathlib.Core.Logic.{_⊎_, inl, inr}
 use mathlib.Core.Bool.{not, _&&_}
-use mathlib.Core.List.{List, [], _∷_, _++_, map, Memᴰ·cast, Memᴰ·append-left, Memᴰ·append-right, List·Memᴰ·append-cases}
+use mathlib.Core.List.{List, [], _∷_, _++_, map, Memᴰ·append-left, Memᴰ·append-right, List·Memᴰ·append-cases}
 use Prim.Native.Nat.{ℕ, suc, _<_, _≤_}
 use native.Mathlib.Omega.{arith}
-use lib.Dec.{T, T-not, not-T, eqb, ltb→lt, lt→ltb}
+use lib.Dec.{T, T-not, not-T, eqb}
 use mir.Facts.{and-yes, yes-and}
 use lib.ListN.{length, getD}
 use Rattle.rules.specs.Lists.{_∈_}
 use Rattle.rules.specs.Marks.{TOP, START}
 use Rattle.rules.specs.Line.{Row}
-use Rattle.rules.specs.Table.{numbers}
-use Rattle.rules.specs.Tree.{Tree, numbersIn, rows, treeOf}
+use Rattle.rules.specs.Tree.{Tree, numbersIn, treeOf}
 use Rattle.rules.specs.Facts.{PositionFact, Facts, factsOf, treePositions, treeContents, sameContentFact, lacking}
 use Rattle.rules.specs.Merge.{contentEdits, contentClashes, mergedTree, lostEdits}
 use Rattle.rules.specs.Demands.{Readable, TreeOf}
 use Rattle.trees.proofs.Lists.{or-right}
 use Rattle.trees.proofs.Marks.{record-high}
 use Rattle.trees.proofs.Disagreeing.{recordOf}
-use Rattle.trees.proofs.OneTable.{row-number}
-use Rattle.trees.proofs.Trees.{numbers-rows}
 use Rattle.trees.proofs.TableTree.{tree-of-table}
-use Rattle.trees.proofs.SameRows.{rows-in, rows-have}
-use Rattle.facts.specs.Memory.{TABLES, lineAt}
+use Rattle.trees.proofs.SameRows.{tree-number, number-tree}
+use Rattle.facts.specs.Memory.{TABLES}
 use Rattle.facts.specs.Asked.{Asked, lists, hasIn, asked}
 use Rattle.facts.specs.Holds.{Holds}
-use Rattle.facts.proofs.Shown.{shown, number-row}
+use Rattle.facts.proofs.Shown.{shown, number-has, has-number}
 use Rattle.edits.specs.Least.{NONE, leastOr, place}
 use Rattle.edits.specs.Memory.{ask, numberOn}
 use Rattle.edits.proofs.Branches.{IsBranch}
@@ -43,18 +40,6 @@ use Rattle.contents.specs.Tables.{SideBySide}
 use Rattle.contents.proofs.Tables.{tell-views, ask-views, ask-met}
 use Rattle.lost.specs.Lost.{lostPosition, lostContent, lostPlace, lostOn, allLost}
 use Rattle.lost.proofs.Positions.{lostParents, position-in, position-met, parents-low}
-
--- the records of a table's tree are the table's
-tree-number : (t : List Row) → Readable t → (n : ℕ) → n ∈ numbersIn (treeOf t) → n ∈ numbers t
-tree-number t ok n m =
-    let x = number-row (rows TOP (treeOf t)) n (subst (λ (l : List ℕ). n ∈ l) (sym (numbers-rows TOP (treeOf t))) m) in
-    Memᴰ·cast (sym (x .2)) (row-number t (x .0) (rows-in t ok (x .0) (x .1)))
-
-number-tree : (t : List Row) → Readable t → (n : ℕ) → n ∈ numbers t → n ∈ numbersIn (treeOf t)
-number-tree t ok n m =
-    let x = number-row t n m in
-    subst (λ (l : List ℕ). n ∈ l) (numbers-rows TOP (treeOf t))
-    (Memᴰ·cast (sym (x .2)) (row-number (rows TOP (treeOf t)) (x .0) (rows-have t ok (x .0) (x .1))))
 
 module _ (texts lines facts : List (List ℕ)) (old : List Row) (branches : List (List Row))
     (m : SideBySide texts lines facts old branches) (counts : List ℕ)
@@ -98,10 +83,10 @@ module _ (texts lines facts : List (List ℕ)) (old : List Row) (branches : List
 
   has-in : (n : ℕ) → T (hasIn ls n) → n ∈ numbersIn f
   has-in n h =
-      subst (λ (g : Tree). n ∈ numbersIn g) (sym tree) (number-tree t ok n (holds .only n (ltb→lt 0 (lineAt ls n) h)))
+      subst (λ (g : Tree). n ∈ numbersIn g) (sym tree) (number-tree t ok n (has-number ls fs t holds n h))
 
   in-has : (n : ℕ) → n ∈ numbersIn f → T (hasIn ls n)
-  in-has n i = lt→ltb 0 (lineAt ls n) (holds .known n (tree-number t ok n (subst (λ (g : Tree). n ∈ numbersIn g) tree i)))
+  in-has n i = number-has ls fs t holds n (tree-number t ok n (subst (λ (g : Tree). n ∈ numbersIn g) tree i))
 
   -- ---- contents
 

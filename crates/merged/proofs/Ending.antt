@@ -21,16 +21,16 @@ use Rattle.rules.specs.Facts.{PositionFact}
 use Rattle.rules.specs.Demands.{Readable}
 use Rattle.rules.specs.declared.answers.Part.{Part}
 use Rattle.trees.proofs.Marks.{record-high}
+use Rattle.trees.proofs.OneTable.{number-record}
 use Rattle.facts.specs.Memory.{WIDTH, NUMBER, lineAt}
-use Rattle.facts.proofs.Shown.{number-row}
 use Rattle.edits.specs.Least.{NONE, place}
 use Rattle.merged.specs.Laying.{Broken, Spread, Steps}
 use Rattle.merged.proofs.Spreading.{known-parent, last-child, line-parent, one-line}
 
-pub parent-low : (t : List Row) → Readable t → (q : ℕ) → q ∈ TOP ∷ numbers t → q < NONE
-parent-low t ok q (here e) = omega arith
-parent-low t ok q (there k) =
-    let w = number-row t q k in omega (arith, record-high (w .0 .number) (ok .distinct .valid (w .0) (w .1)), w .2)
+-- who can have a list is less than NONE
+pub known-low : (t : List Row) → Readable t → (q : ℕ) → q ∈ TOP ∷ numbers t → q < NONE
+known-low t ok q (here e) = omega arith
+known-low t ok q (there k) = record-high q (number-record t (ok .distinct) q k)
 
 module _ {nx : ℕ → ℕ → ℕ} {part : ℕ → Part} {kept : List PositionFact} {known : List ℕ} {ct : ℕ → Content} {ls fs : List ℕ}
     {i p count broken : ℕ} (st : Steps nx kept known) (g : Spread nx part known ct ls fs i p count broken) (low : i ≤ count) where
@@ -64,7 +64,7 @@ module _ {nx : ℕ → ℕ → ℕ} {part : ℕ → Part} {kept : List PositionF
 
   broken-low : Found broken → broken ≤ NONE
   broken-low (inl e) = omega arith
-  broken-low (inr w) = omega (arith, parent-low t (g .readable) broken (w .0))
+  broken-low (inr w) = omega (arith, known-low t (g .readable) broken (w .0))
 
   found : Dec (s ≡ END) → Found broken′
   found (yes e) = let d : min broken NONE ≡ broken = omega (arith, broken-low was) in subst Found (sym (whole e ∙ d)) was

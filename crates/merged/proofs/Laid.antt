@@ -35,7 +35,7 @@ use Rattle.facts.proofs.Shown.{fact-parent, list-end, shown}
 use Rattle.edits.specs.Least.{NONE, leastOr}
 use Rattle.edits.proofs.Best.{least-is}
 use Rattle.merged.specs.Laying.{Broken, Spread, Steps}
-use Rattle.merged.proofs.Ending.{parent-low}
+use Rattle.merged.proofs.Ending.{known-low}
 
 module _ {nx : ℕ → ℕ → ℕ} {part : ℕ → Part} {kept : List PositionFact} {known : List ℕ} {ct : ℕ → Content} {ls fs : List ℕ}
     {i p count broken : ℕ} (st : Steps nx kept known) (g : Spread nx part known ct ls fs i p count broken) (over : count < i) where
@@ -136,7 +136,7 @@ module _ {nx : ℕ → ℕ → ℕ} {part : ℕ → Part} {kept : List PositionF
   pub least-is-told : broken ≡ leastOr (brokenIn walked)
   least-is-told =
       subst (λ (f : Tree). broken ≡ leastOr (brokenIn f)) (sym tree-is) (least-is (brokenIn (treeOf t)) broken some-place
-      (λ q m. let w = broken-out q m in (g .least-broken q (w .0) (all q) (w .1), parent-low t (g .readable) q (w .0))))
+      (λ q m. let w = broken-out q m in (g .least-broken q (w .0) (all q) (w .1), known-low t (g .readable) q (w .0))))
     where
       some-place : (broken ∈ brokenIn (treeOf t)) ⊎ (broken ≡ NONE)
       some-place = elim (g .some-broken) [ inl e ↦ inr e | inr w ↦ inl (broken-in broken (w .0) (w .2)) ]

@@ -6,7 +6,7 @@ use mathlib.Core.Bool.{not}
 use mathlib.Core.List.{List, [], _∷_, map, Memᴰ·of-map}
 use Prim.Native.Nat.{ℕ, zero, suc, _<_, _≤_}
 use native.Mathlib.Omega.{arith}
-use lib.Dec.{T, ltb→lt, lt→ltb}
+use lib.Dec.{T}
 use lib.ListN.{getD, length}
 use Rattle.rules.specs.Limits.{LINES}
 use Rattle.rules.specs.Lists.{_∈_, any, flat}
@@ -24,10 +24,10 @@ use Rattle.trees.proofs.Disagreeing.{parentOf}
 use Rattle.trees.proofs.OneTable.{row-number}
 use Rattle.trees.proofs.Accepting.{kept-positions-coherent}
 use Rattle.trees.proofs.TableTree.{table-sound, tree-of-table}
-use Rattle.facts.specs.Memory.{TABLES, lineAt}
+use Rattle.facts.specs.Memory.{TABLES}
 use Rattle.facts.specs.Asked.{hasIn}
 use Rattle.facts.specs.Holds.{Holds}
-use Rattle.facts.proofs.Shown.{fact-parent}
+use Rattle.facts.proofs.Shown.{fact-parent, has-number, number-has}
 use Rattle.write.specs.Stored.{Lies, Stored, partIn}
 use Rattle.edits.specs.Least.{NONE, leastOr}
 use Rattle.edits.specs.Memory.{ask}
@@ -37,7 +37,7 @@ use Rattle.contents.specs.Tables.{SideBySide}
 use Rattle.contents.proofs.Tables.{ask-views, kept-lies, kept-part}
 use Rattle.merged.specs.Laying.{Result, Steps}
 use Rattle.merged.specs.Memory.{keptNext, keptPart}
-use Rattle.merged.proofs.Ending.{parent-low}
+use Rattle.merged.proofs.Ending.{known-low}
 use Rattle.merged.proofs.Reaching.{flat-few, steps}
 
 -- the lists of a table's tree are those of its records, and the top's
@@ -47,7 +47,7 @@ lists-low t ok f e kept n i =
     let w = Memᴰ·of-map parentOf (lacking samePosition (treePositions TOP START f) kept) i in
     let k = keep-out (λ (a : PositionFact). not (any (samePosition a) kept)) (treePositions TOP START f) (w .1) .0 in
     let j = tree-of-table t ok .positions-in (w .0) (subst (λ (z : Tree). w .0 ∈ treePositions TOP START z) e k) in
-    subst (λ (q : ℕ). q < NONE) (w .2) (parent-low t ok (w .0 .parent) (fact-parent t (w .0) j))
+    subst (λ (q : ℕ). q < NONE) (w .2) (known-low t ok (w .0 .parent) (fact-parent t (w .0) j))
 
 module _ (texts lines facts : List (List ℕ)) (old : List Row) (branches : List (List Row))
     (m : SideBySide texts lines facts old branches) where
@@ -75,15 +75,15 @@ module _ (texts lines facts : List (List ℕ)) (old : List Row) (branches : List
       let h : k < TABLES = omega (arith, j .1, m .many) in (
         k,
         (omega arith, h),
-        lt→ltb 0 (lineAt (getD lines k []) n)
-            (held k h .known n (subst (λ (t : List Row). n ∈ numbers t) (sym (j .2)) (w .2))),
+        number-has (getD lines k []) (getD facts k []) (tableAt k) (held k h) n
+            (subst (λ (t : List Row). n ∈ numbers t) (sym (j .2)) (w .2)),
       )
 
   has-branch : (k n : ℕ) → IsBranch k → T (hasIn (getD lines k []) n) → n ∈ branchNumbers
   has-branch zero n b t = absurd (omega (arith, b .0))
   has-branch (suc j) n b t =
       flat-in numbers (at-in branches j [] (omega (arith, b .1, m .many)))
-      (held (suc j) (b .1) .only n (ltb→lt 0 (lineAt (getD lines (suc j) []) n) t))
+      (has-number (getD lines (suc j) []) (getD facts (suc j) []) (tableAt (suc j)) (held (suc j) (b .1)) n t)
 
   -- ---- the steps
 

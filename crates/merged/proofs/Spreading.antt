@@ -3,8 +3,8 @@
 -- its parent, p the last child so far, s the one that follows it. q is a parent, m a number, a a fact. Assumes nothing.
 use mathlib.Core.Path.{_≡_, refl, sym, ap, _∙_, subst}
 use mathlib.Core.Logic.{_⊎_, inl, inr}
-use mathlib.Core.List.{List, [], _∷_, _++_, List·Memᴰ·head as here, List·Memᴰ·tail as there, Memᴰ·cast, Memᴰ·append-left}
-use mathlib.Core.List.{List·Memᴰ·append-cases, List·Memᴰ·eq-of-singleton, List·Memᴰ·not-nil}
+use mathlib.Core.List.{List, [], _∷_, _++_, List·Memᴰ·head as here, List·Memᴰ·tail as there, Memᴰ·cast}
+use mathlib.Core.List.{List·Memᴰ·append-cases, List·Memᴰ·eq-of-singleton}
 use Prim.Native.Nat.{ℕ, _<_, _≤_, _+_, _*_}
 use native.Mathlib.Omega.{arith}
 use native.Mathlib.Decide.{ℕ-discrete}
@@ -18,39 +18,25 @@ use Rattle.rules.specs.Table.{numbers}
 use Rattle.rules.specs.Tree.{childNumbers}
 use Rattle.rules.specs.Facts.{PositionFact, listFacts, parentGiven, parentsGiven, position}
 use Rattle.rules.specs.declared.answers.Part.{Part}
+use Rattle.trees.proofs.Lists.{last-among}
+use Rattle.trees.proofs.Sets.{once-few}
 use Rattle.trees.proofs.Marks.{record-low, record-high}
 use Rattle.trees.proofs.Disagreeing.{given-in, numberOf, one-before, one-parent}
-use Rattle.trees.proofs.OneTable.{child-number, list-in, row-child}
-use Rattle.trees.proofs.LineByLine.{Open, children-more, lineFact, line-out, list-closed, openFacts}
+use Rattle.trees.proofs.OneTable.{child-number, list-in, number-row, row-child}
+use Rattle.trees.proofs.LineByLine.{Open, children-more, lineFact, line-out, open-before, open-list, openFacts}
 use Rattle.facts.specs.Memory.{ROOM, WIDTH, NUMBER, lineAt, field, who, way}
 use Rattle.facts.specs.Holds.{partAt}
-use Rattle.facts.proofs.Shown.{linked, list-end, number-row, top-line}
+use Rattle.facts.proofs.Shown.{linked, list-end, top-line}
 use Rattle.facts.proofs.OneMore.{childless, children-other, known-cases, not-new, number-cases, number-old, once-more, readable-more}
 use Rattle.facts.proofs.Adding.{Added}
 use Rattle.edits.specs.Least.{NONE}
 use Rattle.merged.specs.Laying.{Broken, Spread, Steps}
-use Rattle.merged.proofs.Counting.{inside}
 
 -- ---- lists
 
 last-more : (p n : ℕ) (ns : List ℕ) → last p (ns ++ (n ∷ [])) ≡ n
 last-more p n [] = refl
 last-more p n (m ∷ ns) = last-more m n ns
-
--- the last of them is one of them, or what stood before
-last-among : (P : ℕ → Type 0) (p : ℕ) (ns : List ℕ) → ((n : ℕ) → n ∈ ns → P n) → P p → P (last p ns)
-last-among P p [] h w = w
-last-among P p (n ∷ ns) h w = last-among P n ns (λ m k. h m (there k)) (h n (here refl))
-
--- every child follows something
-open-before : (r p s : ℕ) (ns : List ℕ) → s ∈ ns → (b : ℕ) × (position r b s ∈ openFacts r p ns)
-open-before r p s [] m = absurd (List·Memᴰ·not-nil m)
-open-before r p s (n ∷ ns) (here e) = (p, here (ap (position r p) e))
-open-before r p s (n ∷ ns) (there m) = let w = open-before r n s ns m in (w .0, there (w .1))
-
-open-list : (r : ℕ) (ns : List ℕ) (a : PositionFact) → a ∈ openFacts r START ns → a ∈ listFacts r START ns
-open-list r ns a m =
-    subst (λ (l : List PositionFact). a ∈ l) (sym (list-closed r START ns)) (Memᴰ·append-left (position r (last START ns) END ∷ []) m)
 
 module _ {nx : ℕ → ℕ → ℕ} {part : ℕ → Part} {kept : List PositionFact} {known : List ℕ} {ct : ℕ → Content} {ls fs : List ℕ}
     {i p count broken : ℕ} (st : Steps nx kept known) (g : Spread nx part known ct ls fs i p count broken) (low : i ≤ count) where
@@ -133,7 +119,7 @@ module _ {nx : ℕ → ℕ → ℕ} {part : ℕ → Part} {kept : List PositionF
             let here-too : fact ∈ openFacts r START (childNumbers r t) =
             subst (λ (z : ℕ). position r z s ∈ openFacts r START (childNumbers r t)) d
             (subst (λ (z : ℕ). position z b s ∈ openFacts z START (childNumbers z t)) e m) in
-            let on = holds-fact fact refl (open-list r (childNumbers r t) fact here-too) in
+            let on = holds-fact fact refl (open-list r START (childNumbers r t) fact here-too) in
             let off : field ls fs (who r p) (way p) ≡ END =
             subst (λ (z : ℕ). field ls fs (who r z) (way z) ≡ END) (sym last-child)
             (holds-fact (position r (last START (childNumbers r t)) END) refl (list-end r START (childNumbers r t))) in
@@ -148,7 +134,7 @@ module _ {nx : ℕ → ℕ → ℕ} {part : ℕ → Part} {kept : List PositionF
     pub room : count + 1 < ROOM
     room =
         let enough =
-        inside (numbers t′) known (once-more t row (g .readable) record-s follower-new) (λ n m. sub n (number-cases t row n m)) in
+        once-few (numbers t′) known (once-more t row (g .readable) record-s follower-new) (λ n m. sub n (number-cases t row n m)) in
         omega (arith, length-map t′ numberOf, length-append t (row ∷ []), g .size, st .few)
       where
         sub : (n : ℕ) → (n ∈ numbers t) ⊎ (n ≡ s) → n ∈ known

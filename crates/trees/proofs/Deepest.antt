@@ -4,18 +4,17 @@ use mathlib.Core.Path.{_≡_, refl, sym, ap, _∙_, subst}
 use mathlib.Core.Logic.{inl, inr}
 use mathlib.Core.Bool.{Bool, cond}
 use mathlib.Core.List.{List, [], _∷_, reverseAux, List·Memᴰ·head as here, List·Memᴰ·tail as there, Memᴰ·append-left, Memᴰ·append-right}
-use mathlib.Core.List.{List·Memᴰ·append-cases, List·Memᴰ·not-nil, Memᴰ·cast, Memᴰ·of-map}
+use mathlib.Core.List.{List·Memᴰ·append-cases, List·Memᴰ·not-nil, Memᴰ·cast}
 use Prim.Native.Nat.{ℕ, suc, _+_, _≤_, max}
 use native.Mathlib.Omega.{arith}
 use borrow.Author.Tests.{eq-eqb, ne-eqb}
-use lib.Dec.{T}
 use Rattle.rules.specs.Lists.{_∈_, NoneTwice}
-use Rattle.rules.specs.Marks.{TOP, isRecord}
+use Rattle.rules.specs.Marks.{TOP}
 use Rattle.rules.specs.Line.{Row}
 use Rattle.rules.specs.Table.{numbers}
 use Rattle.rules.specs.Tree.{Tree, depth, empty, greatestDepth, greatestFrom, node, rows, treeOf}
 use Rattle.rules.specs.Demands.{Readable, Rooted}
-use Rattle.trees.proofs.Disagreeing.{numberOf}
+use Rattle.trees.proofs.OneTable.{number-record}
 use Rattle.trees.proofs.SameRows.{rows-have, rows-in}
 
 -- how many records stand one under another
@@ -108,7 +107,7 @@ module _ (t : List Row) (h : Readable t) where
   depthIn n = depth (reverseAux t []) n
 
   no-top : TOP ∈ numbers t → ⊥
-  no-top m = let w = Memᴰ·of-map numberOf t m in subst (λ (n : ℕ). T (isRecord n)) (w .2) (h .distinct .valid (w .0) (w .1))
+  no-top m = number-record t (h .distinct) TOP m
 
   pub depth-top : depthIn TOP ≡ 0
   depth-top = depth-settled [] t TOP no-top

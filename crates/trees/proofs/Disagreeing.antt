@@ -34,7 +34,7 @@ recordOf a = a .number
 
 -- ---- equal facts
 
-content-equal : (c d : Content) → T (sameContent c d) → c ≡ d
+pub content-equal : (c d : Content) → T (sameContent c d) → c ≡ d
 content-equal [] [] t = refl
 content-equal [] (y ∷ d) t = absurd t
 content-equal (x ∷ c) [] t = absurd t
@@ -44,7 +44,7 @@ content-equal (x ∷ c) (y ∷ d) t =
     let q : c ≡ d = content-equal c d (w .1) in
     cc
 
-content-itself : (c : Content) → T (sameContent c c)
+pub content-itself : (c : Content) → T (sameContent c c)
 content-itself [] = tt
 content-itself (x ∷ c) = yes-and (eqb x x) (sameContent c c) (eqb-refl x) (content-itself c)
 

@@ -59,6 +59,17 @@ open-parent r p [] a m = absurd (List·Memᴰ·not-nil m)
 open-parent r p (n ∷ ns) a (here e) = ap parentOf e
 open-parent r p (n ∷ ns) a (there m) = open-parent r n ns a m
 
+-- every child follows something
+pub open-before : (r p s : ℕ) (ns : List ℕ) → s ∈ ns → (b : ℕ) × (position r b s ∈ openFacts r p ns)
+open-before r p s [] m = absurd (List·Memᴰ·not-nil m)
+open-before r p s (n ∷ ns) (here e) = (p, here (ap (position r p) e))
+open-before r p s (n ∷ ns) (there m) = let w = open-before r n s ns m in (w .0, there (w .1))
+
+-- open facts are facts of the list
+pub open-list : (r p : ℕ) (ns : List ℕ) (a : PositionFact) → a ∈ openFacts r p ns → a ∈ listFacts r p ns
+open-list r p ns a m =
+    subst (λ (l : List PositionFact). a ∈ l) (sym (list-closed r p ns)) (Memᴰ·append-left (position r (last p ns) END ∷ []) m)
+
 -- an open fact of the list of its parent
 abbrev pub Open : List Row → PositionFact → Type 0
 Open t a = a ∈ openFacts (a .parent) START (childNumbers (a .parent) t)

@@ -1,13 +1,15 @@
 -- What the words on lists mean: what stands in a list that is kept, joined or asked for. x and y are elements, xs and ys lists of
--- them, `test` a test. Assumes nothing.
+-- them, `test` a test; n is a number, ns are numbers, p what stands before them. Assumes nothing.
 use mathlib.Core.Path.{_≡_, refl, sym, ap, subst}
 use mathlib.Core.Logic.{_⊎_, inl, inr}
 use mathlib.Core.Bool.{Bool, true, false, not, _&&_, _||_}
 use mathlib.Core.List.{List, [], _∷_, _++_, List·Memᴰ·head as here, List·Memᴰ·tail as there, List·Memᴰ·append-cases, Memᴰ·append-left}
 use mathlib.Core.List.{Memᴰ·append-right, List·Memᴰ·not-nil}
+use Prim.Native.Nat.{ℕ}
 use lib.Dec.{T}
 use mir.Facts.{or-yes}
 use Rattle.rules.specs.Lists.{_∈_, any, flat, keep, put}
+use Rattle.rules.specs.Text.{last}
 
 -- ---- tests
 
@@ -143,3 +145,10 @@ module _ {A B : Type 0} (f : A → List B) where
       step : (y ∈ flat f xs → (x : A) × (x ∈ xs) × (y ∈ f x)) → (y ∈ f z) ⊎ (y ∈ flat f xs) → (x : A) × (x ∈ z ∷ xs) × (y ∈ f x)
       step g (inl k) = (z, here refl, k)
       step g (inr k) = let w = g k in (w .0, there (w .1), w .2)
+
+-- ---- last
+
+-- the last of them is one of them, or what stood before
+pub last-among : (P : ℕ → Type 0) (p : ℕ) (ns : List ℕ) → ((n : ℕ) → n ∈ ns → P n) → P p → P (last p ns)
+last-among P p [] h w = w
+last-among P p (n ∷ ns) h w = last-among P n ns (λ m k. h m (there k)) (h n (here refl))

@@ -110,6 +110,9 @@ list-in t r m a k = flat-in (λ (q : ℕ). listFacts q START (childNumbers q t))
 pub row-number : (t : List Row) (x : Row) → x ∈ t → x .number ∈ numbers t
 row-number t x m = Memᴰ·map numberOf m
 
+pub number-row : (t : List Row) (n : ℕ) → n ∈ numbers t → (x : Row) × (x ∈ t) × (x .number ≡ n)
+number-row t n m = let w = Memᴰ·of-map numberOf t m in (w .0, w .1, w .2)
+
 -- a row is one of its parent's children, and a child has a row
 pub row-child : (t : List Row) (x : Row) → x ∈ t → x .number ∈ childNumbers (x .parent) t
 row-child t x m = Memᴰ·map numberOf (keep-in (λ (y : Row). eqb (y .parent) (x .parent)) m (eqb-refl (x .parent)))
@@ -135,8 +138,11 @@ not-record : {n m : ℕ} → T (isRecord n) → START ≤ m → n ≡ m → ⊥
 not-record {n} t h e = omega (arith, record-high n t)
 
 module _ (t : List Row) (d : Distinct t) where
+  pub number-record : (n : ℕ) → n ∈ numbers t → T (isRecord n)
+  number-record n m = let w = number-row t n m in subst (λ (k : ℕ). T (isRecord k)) (w .2) (d .valid (w .0) (w .1))
+
   pub child-record : (r n : ℕ) → n ∈ childNumbers r t → T (isRecord n)
-  child-record r n m = let w = child-row t r n m in subst (λ (k : ℕ). T (isRecord k)) (w .2) (d .valid (w .0) (w .1))
+  child-record r n m = number-record n (child-number t r n m)
 
   -- a list has each child once, and neither START nor END
   children-once : (r : ℕ) → NoneTwice (childNumbers r t)

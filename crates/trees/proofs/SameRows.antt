@@ -1,4 +1,4 @@
--- A readable table and its tree have the same rows, each once; so every sum over rows, and their count, is the same.
+-- A readable table and its tree have the same rows, each once; so their records, every sum over rows, and their count are the same.
 -- t is a table, r a parent, p the one before, n a record, x, y and z rows, a a fact. Assumes nothing.
 use mathlib.Core.Path.{_≡_, refl, sym, ap, _∙_, subst}
 use mathlib.Core.Logic.{_⊎_, inl, inr}
@@ -13,14 +13,14 @@ use Rattle.rules.specs.Lists.{_∈_, NoneTwice, keep, put, sum}
 use Rattle.rules.specs.Marks.{END, START, TOP, isRecord}
 use Rattle.rules.specs.Line.{Row}
 use Rattle.rules.specs.Table.{numbers}
-use Rattle.rules.specs.Tree.{Tree, childNumbers, empty, node, rows, treeOf}
+use Rattle.rules.specs.Tree.{Tree, childNumbers, empty, node, numbersIn, rows, treeOf}
 use Rattle.rules.specs.Facts.{ContentFact, contentOf, factsOf, position, treePositions}
 use Rattle.rules.specs.Demands.{Distinct, Readable, TreeOf}
 use Rattle.trees.proofs.Lists.{keep-all, keep-in, keep-out}
-use Rattle.trees.proofs.Sets.{once-keep, unique-key}
+use Rattle.trees.proofs.Sets.{map-sub, once-keep, unique-key}
 use Rattle.trees.proofs.Disagreeing.{numberOf, recordOf}
 use Rattle.trees.proofs.OneTable.{child-row, content-row, in-table, list-after, row-content}
-use Rattle.trees.proofs.Trees.{contents-rows, tree-distinct}
+use Rattle.trees.proofs.Trees.{contents-rows, numbers-rows, tree-distinct}
 use Rattle.trees.proofs.TableTree.{tree-of-table}
 
 -- ---- sums over the same rows
@@ -140,7 +140,16 @@ module _ (t : List Row) (h : Readable t) where
       let e : w .0 ≡ x = unique-key numberOf t (h .distinct .once) (rows-in (w .0) (w .1)) m (ap recordOf (w .2)) in
       Memᴰ·cast (sym e) (w .1)
 
-  -- so a sum over them is the same
+  -- so its records are the table's too
+  pub tree-number : (n : ℕ) → n ∈ numbersIn (treeOf t) → n ∈ numbers t
+  tree-number n m =
+      map-sub numberOf (rows TOP (treeOf t)) t rows-in n (subst (λ (l : List ℕ). n ∈ l) (sym (numbers-rows TOP (treeOf t))) m)
+
+  pub number-tree : (n : ℕ) → n ∈ numbers t → n ∈ numbersIn (treeOf t)
+  number-tree n m =
+      subst (λ (l : List ℕ). n ∈ l) (numbers-rows TOP (treeOf t)) (map-sub numberOf t (rows TOP (treeOf t)) rows-have n m)
+
+  -- and a sum over the rows is the same
   pub rows-sum : (w : Row → ℕ) → sum w (rows TOP (treeOf t)) ≡ sum w t
   rows-sum w = same-sum w (rows TOP (treeOf t)) t (rows-distinct .once) (h .distinct .once) rows-in rows-have
 

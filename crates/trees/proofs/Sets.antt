@@ -1,18 +1,19 @@
--- Lists as sets: none stands twice, a key finds one, the first that passes, at most so many numbers below n; and lists with the
--- same elements. x and y are elements, xs and ys lists of them. Assumes nothing.
+-- Lists as sets: none stands twice, a key finds one, lists with the same elements, of which there are no more, and the first that
+-- passes. x and y are elements, xs and ys lists of them, `test` a test. Assumes nothing.
 use mathlib.Core.Path.{_≡_, refl, sym, ap, _∙_, subst}
-use mathlib.Core.Logic.{_⊎_, inl, inr, _≢_}
+use mathlib.Core.Logic.{_⊎_, inl, inr}
 use mathlib.Core.Bool.{Bool, true, false, not}
 use mathlib.Core.Option.{some}
-use mathlib.Core.List.{List, [], _∷_, _++_, map, map-id, List·Memᴰ·head as here, List·Memᴰ·tail as there, List·Memᴰ·append-cases}
+use mathlib.Core.List.{List, [], _∷_, _++_, map, List·Memᴰ·head as here, List·Memᴰ·tail as there, List·Memᴰ·append-cases}
 use mathlib.Core.List.{Memᴰ·append-left, Memᴰ·append-right, Memᴰ·of-map, Memᴰ·map, Memᴰ·cast, List·Memᴰ·not-nil}
 use Prim.Native.Nat.{ℕ, suc, zero, _≤_, _<_}
 use native.Mathlib.Omega.{arith}
+use native.Mathlib.Decide.{ℕ-discrete}
 use lib.ListN.{length}
-use lib.Dec.{T, not-T, eqb, eqb→eq}
-use mir.Facts.{eqb-no}
+use lib.Dec.{T, not-T, T-not, eqb, eqb-refl}
+use mir.Facts.{no-eqb}
 use Rattle.rules.specs.Lists.{NoneTwice, _∈_, first, flat, keep, put}
-use Rattle.trees.proofs.Lists.{flat-in, flat-out, keep-all, keep-in, keep-none, keep-out}
+use Rattle.trees.proofs.Lists.{flat-in, flat-out, keep-in, keep-none, keep-out}
 
 -- ---- none twice
 
@@ -61,40 +62,6 @@ module _ {A B : Type 0} (key : A → B) where
       step true h = (new, h)
       step false h = h
 
--- ---- numbers below n, none twice, are at most n
-
-one-less : (n : ℕ) (ns : List ℕ) → NoneTwice ns → length ns ≤ suc (length (keep (λ (x : ℕ). not (eqb x n)) ns))
-one-less n [] once = omega arith
-one-less n (x ∷ ns) once = step (eqb x n) (λ t. eqb→eq x n t) (one-less n ns (once .1))
-  where
-    others : List ℕ
-    others = keep (λ (y : ℕ). not (eqb y n)) ns
-
-    all : x ≡ n → others ≡ ns
-    all e =
-        keep-all (λ (y : ℕ). not (eqb y n)) ns (λ y m. not-T (eqb y n) (λ t. once .0 (Memᴰ·cast (e ∙ sym (eqb→eq y n t)) m)))
-
-    step : (b : Bool) → (T b → x ≡ n) → length ns ≤ suc (length others) → suc (length ns) ≤ suc (length (put (not b) x others))
-    step true f h = let e : length others ≡ length ns = ap length (all (f tt)) in omega arith
-    step false f h = omega arith
-
-once-others : (test : ℕ → Bool) (ns : List ℕ) → NoneTwice ns → NoneTwice (keep test ns)
-once-others test ns once =
-    subst NoneTwice (map-id (keep test ns)) (once-keep (λ (x : ℕ). x) test ns (subst NoneTwice (sym (map-id ns)) once))
-
-pub pigeonhole : (n : ℕ) (ns : List ℕ) → NoneTwice ns → ((x : ℕ) → x ∈ ns → x < n) → length ns ≤ n
-pigeonhole zero [] once low = omega arith
-pigeonhole zero (x ∷ ns) once low = let h : x < 0 = low x (here refl) in omega arith
-pigeonhole (suc n) ns once low =
-    let h : length (keep other ns) ≤ n = pigeonhole n (keep other ns) (once-others other ns once) (λ x m. below x (keep-out other ns m)) in
-    omega (arith, one-less n ns once)
-  where
-    other : ℕ → Bool
-    other x = not (eqb x n)
-
-    below : (x : ℕ) → (x ∈ ns) × T (not (eqb x n)) → x < n
-    below x w = let h : x < suc n = low x (w .0) in let q : x ≢ n = eqb-no (w .1) in omega arith
-
 -- ---- the same elements
 
 module _ {A : Type 0} where
@@ -108,6 +75,64 @@ module _ {A B : Type 0} where
 
   pub flat-sub : (f : A → List B) (xs ys : List A) → Sub xs ys → Sub (flat f xs) (flat f ys)
   flat-sub f xs ys h y m = let w = flat-out f xs m in flat-in f (h (w .0) (w .1)) (w .2)
+
+-- ---- of which there are no more
+
+module _ {A : Type 0} (test : A → Bool) where
+  keep-le : (xs : List A) → length (keep test xs) ≤ length xs
+  keep-le [] = omega arith
+  keep-le (x ∷ xs) = step (test x) (keep-le xs)
+    where
+      step : (b : Bool) → length (keep test xs) ≤ length xs → length (put b x (keep test xs)) ≤ suc (length xs)
+      step true h = omega arith
+      step false h = omega arith
+
+  -- one is left out
+  keep-less : (xs : List A) (y : A) → y ∈ xs → T (not (test y)) → length (keep test xs) < length xs
+  keep-less [] y m t = absurd (List·Memᴰ·not-nil m)
+  keep-less (x ∷ xs) y (here e) t = step (test x) (subst (λ (z : A). T (not (test z))) e t)
+    where
+      step : (b : Bool) → T (not b) → length (put b x (keep test xs)) < suc (length xs)
+      step true t = absurd t
+      step false t = omega (arith, keep-le xs)
+  keep-less (x ∷ xs) y (there m) t = step (test x) (keep-less xs y m t)
+    where
+      step : (b : Bool) → length (keep test xs) < length xs → length (put b x (keep test xs)) < suc (length xs)
+      step true h = omega arith
+      step false h = omega arith
+
+-- numbers of which none stands twice, each of them in another list, are no more than that list has
+pub once-few : (xs ys : List ℕ) → NoneTwice xs → Sub xs ys → length xs ≤ length ys
+once-few [] ys once h = omega arith
+once-few (x ∷ xs) ys once h =
+    let other : ℕ → Bool = λ y. not (eqb y x) in
+    let less : length (keep other ys) < length ys =
+    keep-less other ys x (h x (here refl)) (not-T (not (eqb x x)) (λ t. T-not (eqb x x) t (eqb-refl x))) in
+    let rest : length xs ≤ length (keep other ys) =
+    once-few xs (keep other ys) (once .1)
+    (λ y m. keep-in other (h y (there m)) (no-eqb {a = y} {b = x} (λ e. once .0 (Memᴰ·cast (sym e) m)))) in
+    omega arith
+
+-- the numbers below n
+abbrev below : ℕ → List ℕ
+below zero = []
+below (suc n) = n ∷ below n
+
+below-in : (n x : ℕ) → x < n → x ∈ below n
+below-in zero x h = absurd (omega arith)
+below-in (suc n) x h = go (ℕ-discrete x n) (below-in n x)
+  where
+    go : Dec (x ≡ n) → (x < n → x ∈ below n) → x ∈ below (suc n)
+    go (yes e) f = here e
+    go (no e) f = there (f (omega (arith, e)))
+
+below-length : (n : ℕ) → length (below n) ≡ n
+below-length zero = refl
+below-length (suc n) = ap suc (below-length n)
+
+-- numbers below n, none twice, are at most n
+pub pigeonhole : (n : ℕ) (ns : List ℕ) → NoneTwice ns → ((x : ℕ) → x ∈ ns → x < n) → length ns ≤ n
+pigeonhole n ns once low = omega (arith, once-few ns (below n) once (λ x m. below-in n x (low x m)), below-length n)
 
 -- ---- the first that passes, where all that pass have one value
 

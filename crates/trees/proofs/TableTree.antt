@@ -4,7 +4,7 @@
 use mathlib.Core.Path.{_≡_, refl, sym, ap, _∙_, subst}
 use mathlib.Core.Logic.{_⊎_, inl, inr}
 use mathlib.Core.Option.{Option, none, some}
-use mathlib.Core.List.{List, [], _∷_, List·Memᴰ·head as here, List·Memᴰ·tail as there, Memᴰ·cast, Memᴰ·of-map, Memᴰ·append-left}
+use mathlib.Core.List.{List, [], _∷_, List·Memᴰ·head as here, List·Memᴰ·tail as there, Memᴰ·cast, Memᴰ·append-left}
 use mathlib.Core.List.{Memᴰ·append-right, List·Memᴰ·append-cases, List·Memᴰ·not-nil}
 use Prim.Native.Nat.{ℕ, zero, suc, _<_}
 use native.Mathlib.Omega.{arith}
@@ -21,7 +21,7 @@ use Rattle.rules.specs.Demands.{Distinct, Readable, Rooted, TreeOf}
 use Rattle.trees.proofs.Lists.{keep-out}
 use Rattle.trees.proofs.Disagreeing.{numberOf, one-content, recordOf}
 use Rattle.trees.proofs.OneTable.{child-number, child-record, child-row, content-row, contents-coherent, in-table, list-after}
-use Rattle.trees.proofs.OneTable.{list-follower, list-in, list-of, row-child, row-content, row-number, table-coherent}
+use Rattle.trees.proofs.OneTable.{list-follower, list-in, list-of, number-row, row-child, row-content, row-number, table-coherent}
 use Rattle.trees.proofs.Walk.{Goes, content-is, found-in, position-to, step-goes, step-in, step-record, walk-content}
 use Rattle.trees.proofs.Walk.{walk-induction, walk-none, walk-some}
 use Rattle.trees.proofs.Reached.{Along, Holds, lists-whole, steps-enough, stepsOf, walk-tree}
@@ -47,7 +47,7 @@ table-sound t d =
         go (inr k) = let w = child-row t (a .parent) (a .after) k in (contentOf (w .0), row-content t (w .0) (w .1), w .2)
 
 -- a record of a tree has a content there
-number-content : (f : Tree) (n : ℕ) → n ∈ numbersIn f → (b : ContentFact) × (b ∈ treeContents f) × (b .number ≡ n)
+pub number-content : (f : Tree) (n : ℕ) → n ∈ numbersIn f → (b : ContentFact) × (b ∈ treeContents f) × (b .number ≡ n)
 number-content empty n m = absurd (List·Memᴰ·not-nil m)
 number-content (node j c below after) n (here e) = (contentFact j c, here refl, sym e)
 number-content (node j c below after) n (there m) =
@@ -198,7 +198,7 @@ module _ (t : List Row) (d : Distinct t) where
   module _ (rooted : Rooted [] t) where
     all-reached : (n : ℕ) → n ∈ numbers t → n ∈ numbersIn (walked t)
     all-reached n m =
-        let w = Memᴰ·of-map numberOf t m in
+        let w = number-row t n m in
         Memᴰ·cast (sym (w .2)) (reached [] t (λ j k. absurd (List·Memᴰ·not-nil k)) (λ x k. k) rooted (w .0) (w .1))
 
     walked-positions : (a : PositionFact) → a ∈ treePositions TOP START (walked t) → a ∈ positions
