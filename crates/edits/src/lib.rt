@@ -18,7 +18,7 @@ ghost use mathlib.Core.List.{[]};
 ghost use mathlib.Core.Bool.{_&&_, _||_};
 ghost use Prim.Native.Nat.{min, _<_};
 ghost use lib.Dec.{eqb};
-ghost use lib.ListN.{length, getD};
+ghost use lib.ListN.{getD};
 ghost use Rattle.facts.specs.Memory.{ROOM, TABLES};
 ghost use Rattle.facts.specs.Asked.{hasIn};
 ghost use Rattle.edits.specs.Least.{NONE, place};
@@ -52,14 +52,6 @@ pub fn place(test: bool, n: u32) -> u32
 }
 
 // ---- the tables
-
-// What the types of the lent arrays say of their lengths. It does nothing when it runs.
-pub fn side_by_side(lines: &[[u16; NUMBERS]; TABLES], facts: &[[u32; FACTS]; TABLES])
-    ensures { λ r. ⌜ (length (now (lines .entry)) ≡ TABLES) × (length (now (facts .entry)) ≡ TABLES) ⌝ }
-{
-    let s = &lines[..];
-    let u = &facts[..];
-}
 
 pub fn has_in(lines: &[[u16; NUMBERS]; TABLES], t: usize, n: u32) -> bool
     requires { ⌜ t < TABLES ⌝ }
