@@ -1,7 +1,7 @@
 -- What each question answers, way by way through its code: the premises are what the code has tested and read. texts, lines and facts
 -- are those of all tables, n is a record, t and k are tables; v, z are answers. Assumes nothing.
 use mathlib.Core.Path.{_≡_, ap, _∙_}
-use mathlib.Core.Bool.{Bool, true, false, not, _&&_}
+use mathlib.Core.Bool.{Bool, true, not, _&&_}
 use mathlib.Core.List.{List, [], map}
 use Prim.Native.Nat.{ℕ, _+_, _*_, _<_}
 use native.Mathlib.Omega.{arith}
@@ -10,9 +10,9 @@ use lib.ListN.{length, getD}
 use borrow.Author.Needs.{needs}
 use Rattle.rules.specs.Facts.{sameContent}
 use Rattle.facts.specs.Memory.{TABLES, PLACE, LENGTH, SPAN, TEXTS, startOf, field}
-use Rattle.edits.specs.Least.{place}
+use Rattle.edits.proofs.Ways.{and-then, and-stop, place-is}
 use Rattle.text.proofs.Texts.{text-at}
-use Rattle.contents.specs.Contents.{Told, freshContent, contentSource, twoContents, contentPlace, contentOrigin}
+use Rattle.contents.specs.Contents.{Told, freshContent, contentSource, twoContents, contentOrigin}
 use Rattle.contents.specs.Memory.{cut, tell, sourceOf, keptPlace, keptLength}
 
 -- ---- what a record holds
@@ -34,12 +34,6 @@ pub same-both : (a b c d : List ℕ) (z : Bool) → a ≡ c → b ≡ d → z �
 same-both a b c d z e f h = h ∙ (λ i. sameContent (e i) (f i))
 
 -- the second is asked only where the first passed
-pub both-asked : (a b y z : Bool) → y ≡ a → y ≡ true → z ≡ b → z ≡ (a && b)
-both-asked a b y z e t f = rw (← e, t) f
-
-pub first-failed : (a b y : Bool) → y ≡ a → y ≡ false → false ≡ (a && b)
-first-failed a b y e t = rw (← e, t)
-
 pub then-not : (a b y z : Bool) → y ≡ a → y ≡ true → z ≡ b → not z ≡ (a && not b)
 then-not a b y z e t f = rw (← e, t, f)
 
@@ -52,10 +46,7 @@ module _ (w : ℕ → Told) (t n : ℕ) where
       then-not (freshContent w t n) (sameContent (w t .content n) (w (contentSource w n) .content n)) y z e f
       (h ∙ ap (λ (j : ℕ). sameContent (w t .content n) (w j .content n)) s)
 
-  pub place-asked : (v : ℕ) (z : Bool) → z ≡ twoContents w t n → v ≡ place z n → v ≡ contentPlace w t n
-  place-asked v z e h = h ∙ ap (λ (b : Bool). place b n) e
-
-pub ruleset asks = (same-both, both-asked, first-failed, then-not, two-asked, place-asked, needs)
+pub ruleset asks = (same-both, and-then, and-stop, then-not, two-asked, place-is, needs)
 
 -- ---- where the kept content lies
 

@@ -16,12 +16,12 @@ use Rattle.rules.specs.Facts.{ContentFact, Facts, contentsOf, contentFact, same
 use Rattle.rules.specs.Merge.{contentEdits, contentClashes}
 use Rattle.trees.proofs.Lists.{either, cannot-fail}
 use Rattle.trees.proofs.Kept.{Coherent, none-coherent, places-in, places-out}
-use Rattle.trees.proofs.Disagreeing.{recordOf, content-tells}
+use Rattle.trees.proofs.Disagreeing.{recordOf, content-equal, content-tells}
 use Rattle.facts.specs.Memory.{TABLES, BRANCHES}
 use Rattle.edits.proofs.Branches.{IsBranch, first-yes, first-some}
 use Rattle.edits.proofs.Telling.{edit-of, edit-out}
 use Rattle.contents.specs.Contents.{Told, freshContent, contentSource, twoContents}
-use Rattle.contents.proofs.Comparing.{same-equal, equal-same}
+use Rattle.contents.proofs.Comparing.{equal-same}
 
 -- ---- a table tells exactly some content facts
 
@@ -78,7 +78,7 @@ module _ (w : ℕ → Told) (old : Facts) (branches : List Facts) (v : ContentVi
       yes-and (w k .has n) (not (w 0 .has n && sameContent (w k .content n) (w 0 .content n))) h
       (not-T (w 0 .has n && sameContent (w k .content n) (w 0 .content n)) (λ t.
       let both = and-yes (w 0 .has n) (sameContent (w k .content n) (w 0 .content n)) t in
-      f (both .0) (same-equal (w k .content n) (w 0 .content n) (both .1))))
+      f (both .0) (content-equal (w k .content n) (w 0 .content n) (both .1))))
 
   -- it is an edit
   pub fresh-edit : (k n : ℕ) → IsBranch k → T (freshContent w k n) → contentFact n (w k .content n) ∈ contentEdits old branches
@@ -102,7 +102,7 @@ module _ (w : ℕ → Told) (old : Facts) (branches : List Facts) (v : ContentVi
 
   -- ---- the first branch with an edit
 
-  pub source-fresh : (k n : ℕ) → IsBranch k → T (freshContent w k n)
+  source-fresh : (k n : ℕ) → IsBranch k → T (freshContent w k n)
       → T (freshContent w (contentSource w n) n) × IsBranch (contentSource w n)
   source-fresh k n b t = first-yes (λ j. freshContent w j n) (first-some (λ j. freshContent w j n) k b t)
 
@@ -148,7 +148,7 @@ module _ (w : ℕ → Told) (old : Facts) (branches : List Facts) (v : ContentVi
           elim (either (sameContent (w k .content n) theirs)) [
             | inr t ↦ at k bk fk t
             | inl t ↦ at j bj fj (not-T (sameContent (w j .content n) theirs) (λ u.
-                ne (sym ck ∙ same-equal (w k .content n) theirs t ∙ sym (same-equal (w j .content n) theirs u) ∙ cj)))
+                ne (sym ck ∙ content-equal (w k .content n) theirs t ∙ sym (content-equal (w j .content n) theirs u) ∙ cj)))
           ]
 
   -- ---- where no two edits clash
@@ -161,6 +161,6 @@ module _ (w : ℕ → Told) (old : Facts) (branches : List Facts) (v : ContentVi
     -- every edit is the first branch's
     pub one-edit : (k n : ℕ) → IsBranch k → T (freshContent w k n) → w k .content n ≡ w (contentSource w n) .content n
     one-edit k n b t =
-        same-equal (w k .content n) (w (contentSource w n) .content n)
+        content-equal (w k .content n) (w (contentSource w n) .content n)
         (cannot-fail (sameContent (w k .content n) (w (contentSource w n) .content n)) (λ u.
         List·Memᴰ·not-nil (subst (λ (l : List ℕ). n ∈ l) none (clash-in k n b (yes-and (freshContent w k n) _ t u)))))

@@ -1,7 +1,7 @@
 -- Two contents compared byte by byte, and a content cut out of its text. a and b are the contents, i is the count of bytes that were
 -- looked at. Assumes nothing.
 use mathlib.Core.Path.{_≡_, refl, sym, ap, _∙_, subst}
-use mathlib.Core.Bool.{Bool, true, false, _&&_}
+use mathlib.Core.Bool.{Bool, true, false, _&&_, and-true, and-assoc}
 use mathlib.Core.List.{List, []}
 use Prim.Native.Nat.{ℕ, _+_, _-_, _<_, _≤_}
 use native.Mathlib.Omega.{arith}
@@ -11,29 +11,18 @@ use lib.ListN.{length, getD, take, drop}
 use borrow.Author.Needs.{needs}
 use borrow.Author.Tests.{le-leb, lt-leb}
 use Rattle.rules.specs.Line.{Content}
-use Rattle.rules.specs.Facts.{ContentFact, contentFact, sameContent}
+use Rattle.rules.specs.Facts.{sameContent}
 use Rattle.text.proofs.Places.{left-next, left-none}
 use Rattle.trees.proofs.Lists.{is-false}
-use Rattle.trees.proofs.Disagreeing.{content-tells}
+use Rattle.trees.proofs.Disagreeing.{content-equal, content-itself}
 use Rattle.contents.specs.Memory.{cut}
 
--- ---- the test tells whether they are equal
-
-pub same-equal : (a b : Content) → T (sameContent a b) → a ≡ b
-same-equal a b t = ap (λ (f : ContentFact). f .content) (content-tells .equal (contentFact 0 a) (contentFact 0 b) t)
+-- ---- equal contents pass the test
 
 pub equal-same : (a b : Content) → a ≡ b → T (sameContent a b)
-equal-same a b e = subst (λ (c : Content). T (sameContent a c)) e (content-tells .itself (contentFact 0 a))
+equal-same a b e = subst (λ (c : Content). T (sameContent a c)) e (content-itself a)
 
 -- ---- byte by byte
-
-and-both : (a b c : Bool) → ((a && b) && c) ≡ (a && (b && c))
-and-both true b c = refl
-and-both false b c = refl
-
-and-true : (a : Bool) → (a && true) ≡ a
-and-true true = refl
-and-true false = refl
 
 module _ (a b : Content) where
   -- the answer from here is the answer from the start; z is the answer so far
@@ -42,7 +31,7 @@ module _ (a b : Content) where
     pub rest : (z && sameContent (drop i a) (drop i b)) ≡ sameContent a b
 
   pub same-lengths : (length a ≡ length b → ⊥) → false ≡ sameContent a b
-  same-lengths h = sym (is-false (sameContent a b) (λ t. h (ap length (same-equal a b t))))
+  same-lengths h = sym (is-false (sameContent a b) (λ t. h (ap length (content-equal a b t))))
 
   pub same-start : length a ≡ length b → Compared true 0
   same-start e = record { long = e; rest = refl }
@@ -55,7 +44,7 @@ module _ (a b : Content) where
     same-on h = record {
       long = w .long;
       rest =
-          and-both z (eqb (getD a i 0) (getD b i 0)) (sameContent (drop (i + 1) a) (drop (i + 1) b))
+          and-assoc z (eqb (getD a i 0) (getD b i 0)) (sameContent (drop (i + 1) a) (drop (i + 1) b))
           ∙ sym (λ j. z && sameContent (left-next a i h j) (left-next b i (same-low h) j)) ∙ w .rest;
     }
 

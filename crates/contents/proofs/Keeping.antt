@@ -74,7 +74,7 @@ module _ (w : ℕ → Told) (old : Facts) (branches : List Facts) (v : ContentVi
   ]
 
   module _ (none : contentClashes old branches ≡ []) where
-    pub kept-agree : Coherent contentsDisagree (keptContents old branches)
+    kept-agree : Coherent contentsDisagree (keptContents old branches)
     unfolding keptContents contentEdits
     kept-agree =
         kept-coherent content-tells (old .contents) (map contentsOf branches) contentsDisagree content-flip

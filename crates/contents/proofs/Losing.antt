@@ -28,7 +28,7 @@ pub record Holding (facts : List ContentFact) (content : ℕ → Content) (ns : 
   pub all : (n : ℕ) → n ∈ ns → contentFact n (content n) ∈ facts
 
 -- the walk gives each record its content
-pub walk-holding : (next : ℕ → ℕ → Option ℕ) (content : ℕ → Content) (k r p : ℕ)
+walk-holding : (next : ℕ → ℕ → Option ℕ) (content : ℕ → Content) (k r p : ℕ)
     → Holding (treeContents (walk next content k r p)) content (numbersIn (walk next content k r p))
 walk-holding next content k r p = record { of = of; all = all }
   where

@@ -5,6 +5,7 @@ use mathlib.Core.Bool.{Bool, true, false, cond}
 use Prim.Native.Nat.{ℕ, zero, suc, _+_, _-_, _<_, _≤_}
 use native.Mathlib.Omega.{arith}
 use native.Mathlib.Decide.{ℕ-discrete}
+use native.Mathlib.Numerals.{suc-eq-add-one}
 use mir.Val.{Fits}
 use mir.Syntax.{w64}
 use borrow.Author.Needs.{needs}
@@ -25,17 +26,14 @@ sum-few test k (suc m) = step (test k) (sum-few test (suc k) m)
     step false h = omega arith
 
 module _ (test : ℕ → Bool) where
-  pub sum-bound : sumBranches test ≤ 3
+  sum-bound : sumBranches test ≤ 3
   sum-bound = sum-few test 1 BRANCHES
 
   sum-step : (t : ℕ) → t < TABLES → sumFrom test t (TABLES - t) ≡ cond (test t) t 0 + sumFrom test (t + 1) (TABLES - (t + 1))
   sum-step t h = go (TABLES - t) (TABLES - (t + 1)) (omega arith)
     where
-      next : suc t ≡ t + 1
-      next = omega arith
-
       go : (m l : ℕ) → m ≡ suc l → sumFrom test t m ≡ cond (test t) t 0 + sumFrom test (t + 1) l
-      go m l e = ap (sumFrom test t) e ∙ ap (λ (j : ℕ). cond (test t) t 0 + sumFrom test j l) next
+      go m l e = ap (sumFrom test t) e ∙ ap (λ (j : ℕ). cond (test t) t 0 + sumFrom test j l) (suc-eq-add-one t)
 
   -- ---- the loop
 

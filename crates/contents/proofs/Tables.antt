@@ -1,10 +1,10 @@
 -- Tables in memory tell their own contents, and the kept content of a record lies where its kept place says. texts, lines and facts are
 -- those of all tables, text, ls and fs those of one; t, old and branches are rows of tables; x is a row, n a record, k a table. Assumes
 -- nothing.
-use mathlib.Core.Path.{_≡_, refl, sym, ap, _∙_, subst}
+use mathlib.Core.Path.{_≡_, sym, ap, _∙_, subst}
 use mathlib.Core.Bool.{Bool, cond}
-use mathlib.Core.List.{List, [], _∷_, map, Memᴰ·cast, Memᴰ·map, Memᴰ·of-map}
-use Prim.Native.Nat.{ℕ, zero, suc, _+_, _*_, _<_, _≤_}
+use mathlib.Core.List.{List, [], _∷_, map, Memᴰ·cast}
+use Prim.Native.Nat.{ℕ, _+_, _*_, _<_, _≤_}
 use native.Mathlib.Omega.{arith}
 use lib.Dec.{T}
 use lib.ListN.{length, getD, take, drop, length-map}
@@ -13,9 +13,9 @@ use Rattle.rules.specs.Lists.{_∈_}
 use Rattle.rules.specs.Marks.{isRecord}
 use Rattle.rules.specs.Line.{Row}
 use Rattle.rules.specs.Table.{numbers}
-use Rattle.rules.specs.Facts.{ContentFact, contentsOf, contentFact, contentOf, factsOf}
+use Rattle.rules.specs.Facts.{ContentFact, contentsOf, contentFact, factsOf}
 use Rattle.rules.specs.Merge.{contentClashes, keptContents, contentIn}
-use Rattle.trees.proofs.OneTable.{number-record, number-row, row-number}
+use Rattle.trees.proofs.OneTable.{content-row, number-record, number-row, row-content, row-number}
 use Rattle.trees.proofs.Disagreeing.{recordOf}
 use Rattle.facts.specs.Memory.{TABLES, PLACE, LENGTH, SPAN, TEXTS, startOf, textOf, originOf, field}
 use Rattle.facts.specs.Asked.{hasIn}
@@ -23,7 +23,7 @@ use Rattle.facts.proofs.Shown.{has-number, number-has}
 use Rattle.edits.specs.Memory.{ask, numberOn}
 use Rattle.edits.proofs.Clashing.{Views}
 use Rattle.edits.proofs.Leasts.{Met}
-use Rattle.edits.proofs.Tables.{position-views, parents-met}
+use Rattle.edits.proofs.Tables.{rows-facts, position-views, parents-met}
 use Rattle.write.specs.Stored.{Lies, partIn, Stored}
 use Rattle.contents.specs.Contents.{Told, contentOrigin}
 use Rattle.contents.specs.Memory.{cut, tell, sourceOf, keptPlace, keptLength}
@@ -46,14 +46,14 @@ module _ (text ls fs : List ℕ) (t : List Row) (m : Stored (text ∷ []) ls fs 
     first : textOf start ≡ 0
     first = let h : start < SPAN = low (x .number) (row-number t x i) in omega arith
 
-    pub row-start : startOf start ≡ start
+    row-start : startOf start ≡ start
     row-start = let h : start < SPAN = low (x .number) (row-number t x i) in omega arith
 
-    pub row-within : start + long ≤ length text
+    row-within : start + long ≤ length text
     row-within =
         rw (← row-start) (subst (λ (j : ℕ). startOf start + long ≤ length (getD (text ∷ []) j [])) first (m .lies x i .within))
 
-    pub row-cut : cut text start long ≡ x .content
+    row-cut : cut text start long ≡ x .content
     row-cut =
         rw (le-leb (start + long) (length text) row-within)
         (sym (m .contents x i ∙ (λ j. take long (drop (row-start j) (getD (text ∷ []) (first j) [])))))
@@ -65,34 +65,26 @@ module _ (text ls fs : List ℕ) (t : List Row) (m : Stored (text ∷ []) ls fs 
   abbrev told : Told
   told = record { has = hasIn ls; content = λ n. cut text (field ls fs n PLACE) (field ls fs n LENGTH) }
 
-  pub told-view : ContentView told (map contentOf t)
+  told-view : ContentView told (factsOf t .contents)
   told-view = record { to = to; from = from; record-has = record-has }
     where
-      to : (a : ContentFact) → a ∈ map contentOf t → T (hasIn ls (a .number)) × (told .content (a .number) ≡ a .content)
+      to : (a : ContentFact) → a ∈ factsOf t .contents → T (hasIn ls (a .number)) × (told .content (a .number) ≡ a .content)
       to a i =
-          let x = Memᴰ·of-map contentOf t i in
+          let x = content-row t a i in
           let n : x .0 .number ≡ a .number = ap recordOf (x .2) in
           let c : x .0 .content ≡ a .content = ap (λ (b : ContentFact). b .content) (x .2) in (
             subst (λ (j : ℕ). T (hasIn ls j)) n (number-has ls fs t (m .holds) (x .0 .number) (row-number t (x .0) (x .1))),
             ap (told .content) (sym n) ∙ row-cut (x .0) (x .1) ∙ c,
           )
 
-      from : (n : ℕ) → T (hasIn ls n) → contentFact n (told .content n) ∈ map contentOf t
+      from : (n : ℕ) → T (hasIn ls n) → contentFact n (told .content n) ∈ factsOf t .contents
       from n h =
           let x = has-row n h in
           let c : told .content n ≡ x .0 .content = ap (told .content) (sym (x .2)) ∙ row-cut (x .0) (x .1) in
-          Memᴰ·cast (λ j. contentFact (sym (x .2) j) (c j)) (Memᴰ·map contentOf (x .1))
+          Memᴰ·cast (λ j. contentFact (sym (x .2) j) (c j)) (row-content t (x .0) (x .1))
 
       record-has : (n : ℕ) → T (hasIn ls n) → T (isRecord n)
       record-has n h = number-record t (m .readable .distinct) n (has-number ls fs t (m .holds) n h)
-
--- ---- all tables
-
-rows-contents : (tables : List (List Row)) (k : ℕ) → getD (map contentsOf (map factsOf tables)) k [] ≡ map contentOf (getD tables k [])
-unfolding factsOf
-rows-contents [] k = refl
-rows-contents (t ∷ tables) zero = refl
-rows-contents (t ∷ tables) (suc k) = rows-contents tables k
 
 -- ---- a place put together
 
@@ -114,7 +106,7 @@ module _ (texts lines facts : List (List ℕ)) (old : List Row) (branches : List
   pub tell-views : ContentViews (tell texts lines facts) (factsOf old) (map factsOf branches)
   tell-views = record {
     many = length-map branches factsOf ∙ m .many;
-    view = λ k h. subst (ContentView (tell texts lines facts k)) (sym (rows-contents (old ∷ branches) k))
+    view = λ k h. subst (ContentView (tell texts lines facts k)) (sym (rows-facts contentsOf (old ∷ branches) k (omega (arith, m .many))))
         (told-view (getD texts k []) (getD lines k []) (getD facts k []) (getD (old ∷ branches) k []) (m .stored k h) (m .low k h));
   }
 

@@ -3,7 +3,7 @@
 use mathlib.Core.Path.{_≡_, refl, sym, ap, _∙_}
 use mathlib.Core.Logic.{_⊎_, inl, inr}
 use mathlib.Core.Bool.{Bool, true, false}
-use mathlib.Core.List.{List, [], _∷_, _++_, List·Memᴰ·not-nil, Memᴰ·cast, Memᴰ·append-left, Memᴰ·append-right, List·Memᴰ·append-cases}
+use mathlib.Core.List.{List, [], _∷_, List·Memᴰ·not-nil, Memᴰ·cast}
 use Prim.Native.Nat.{ℕ, zero, suc, _+_, _-_, _<_, _≤_, min}
 use native.Mathlib.Omega.{arith}
 use native.Mathlib.Decide.{decLe}
@@ -67,32 +67,6 @@ refuse-least code (x ∷ xs) r low h = refl
 
 pub refuse-none : (code : ℕ) (P : List ℕ) (r : Result) → P ≡ [] → refuse code P r ≡ r
 refuse-none code P r e = ap (λ (l : List ℕ). refuse code l r) e
-
--- the least of two kinds of places
-pub least-both : (P Q : List ℕ) (v u : ℕ) → v ≡ leastOr P → u ≡ leastOr Q → ((x : ℕ) → x ∈ P → x < NONE) → ((x : ℕ) → x ∈ Q → x < NONE)
-    → min v u ≡ leastOr (P ++ Q)
-least-both P Q v u e f low low′ =
-    least-is (P ++ Q) (min v u) (min-in (P ++ Q) v u (left (is P v e)) (right (is Q u f))) (λ x m.
-    elim (List·Memᴰ·append-cases P m) [
-      | inl i ↦ (omega (arith, at P v e x i), low x i)
-      | inr i ↦ (omega (arith, at Q u f x i), low′ x i)
-    ])
-  where
-    is : (R : List ℕ) (n : ℕ) → n ≡ leastOr R → PlaceIn R n
-    is [] n e = inr e
-    is (x ∷ xs) n e = inl (Memᴰ·cast e (least-in x xs))
-
-    at : (R : List ℕ) (n : ℕ) → n ≡ leastOr R → (x : ℕ) → x ∈ R → n ≤ x
-    at [] n e x i = absurd (List·Memᴰ·not-nil i)
-    at (y ∷ ys) n e x i = omega (arith, least-le y ys x i, e)
-
-    left : PlaceIn P v → PlaceIn (P ++ Q) v
-    left (inl m) = inl (Memᴰ·append-left Q m)
-    left (inr d) = inr d
-
-    right : PlaceIn Q u → PlaceIn (P ++ Q) u
-    right (inl m) = inl (Memᴰ·append-right P m)
-    right (inr d) = inr d
 
 -- every place asked for is one or none, and each place is met or bettered on a line of a branch
 pub best-of-is : (P : List ℕ) (f : ℕ → ℕ → ℕ) (counts : ℕ → ℕ) → ((x : ℕ) → x ∈ P → x < NONE)

@@ -5,6 +5,7 @@ use mathlib.Core.Bool.{Bool, true, false, cond}
 use Prim.Native.Nat.{ℕ, zero, suc, _+_, _-_, _<_, _≤_}
 use native.Mathlib.Omega.{arith}
 use native.Mathlib.Decide.{ℕ-discrete}
+use native.Mathlib.Numerals.{suc-eq-add-one}
 use lib.Dec.{T}
 use mir.Facts.{and-yes, yes-and}
 use borrow.Author.Needs.{needs}
@@ -82,11 +83,8 @@ module _ (test : ℕ → Bool) where
   step : (t : ℕ) → t < TABLES → firstFrom test t (TABLES - t) ≡ cond (test t) t (firstFrom test (t + 1) (TABLES - (t + 1)))
   step t h = go (TABLES - t) (TABLES - (t + 1)) (omega arith)
     where
-      next : suc t ≡ t + 1
-      next = omega arith
-
       go : (m l : ℕ) → m ≡ suc l → firstFrom test t m ≡ cond (test t) t (firstFrom test (t + 1) l)
-      go m l e = ap (firstFrom test t) e ∙ ap (λ (j : ℕ). cond (test t) t (firstFrom test j l)) next
+      go m l e = ap (firstFrom test t) e ∙ ap (λ (j : ℕ). cond (test t) t (firstFrom test j l)) (suc-eq-add-one t)
 
   pub left-here : (t : ℕ) (z : Bool) → Left t → t < TABLES → z ≡ test t → z ≡ true → t ≡ firstBranch test
   left-here t z w h e y = sym (step t h ∙ ap (λ (b : Bool). cond b t (firstFrom test (t + 1) (TABLES - (t + 1)))) (sym e ∙ y)) ∙ w .same

@@ -27,21 +27,21 @@ use Rattle.edits.proofs.Telling.{edit-of, edit-out}
 
 -- ---- new neighbours
 
-pub fresh-out : (o s : ℕ) → T (fresh o s) → (0 < s) × (s ≡ o → ⊥)
+fresh-out : (o s : ℕ) → T (fresh o s) → (0 < s) × (s ≡ o → ⊥)
 fresh-out o s t = let w = and-yes (ltb 0 s) (not (eqb s o)) t in (ltb→lt 0 s (w .0), eqb-no (w .1))
 
-pub fresh-in : (o s : ℕ) → 0 < s → (s ≡ o → ⊥) → T (fresh o s)
+fresh-in : (o s : ℕ) → 0 < s → (s ≡ o → ⊥) → T (fresh o s)
 fresh-in o s h e = yes-and (ltb 0 s) (not (eqb s o)) (lt→ltb 0 s h) (no-eqb e)
 
 -- ---- old and one branch
 
 module _ {o q : Asked} {old facts : List PositionFact} (vo : View o old) (v : View q facts) where
   -- a new neighbour is an edit
-  pub after-edit : (r p : ℕ) → T (fresh (o .after r p) (q .after r p))
+  after-edit : (r p : ℕ) → T (fresh (o .after r p) (q .after r p))
       → (position r p (q .after r p) ∈ facts) × (position r p (q .after r p) ∈ old → ⊥)
   after-edit r p t = let w = fresh-out (o .after r p) (q .after r p) t in (v .from-after r p (w .0), λ m. w .1 (sym (vo .to-after _ m)))
 
-  pub before-edit : (r s : ℕ) → T (fresh (o .before r s) (q .before r s))
+  before-edit : (r s : ℕ) → T (fresh (o .before r s) (q .before r s))
       → (position r (q .before r s) s ∈ facts) × (position r (q .before r s) s ∈ old → ⊥)
   before-edit r s t = let w = fresh-out (o .before r s) (q .before r s) t in
       (v .from-before r s (w .0), λ m. w .1 (sym (vo .to-before _ m)))
@@ -55,7 +55,7 @@ module _ {o q : Asked} {old facts : List PositionFact} (vo : View o old) (v : Vi
       fresh-in (o .after (a .parent) (a .before)) (q .after (a .parent) (a .before)) (subst (λ (n : ℕ). 0 < n) (sym e) low)
       (λ d. h (has-after vo a low (sym d ∙ e)))
 
-  pub edit-before : (a : PositionFact) → a ∈ facts → (a ∈ old → ⊥)
+  edit-before : (a : PositionFact) → a ∈ facts → (a ∈ old → ⊥)
       → T (fresh (o .before (a .parent) (a .after)) (q .before (a .parent) (a .after)))
   edit-before a m h =
       let e = v .to-before a m in
@@ -74,10 +74,8 @@ module _ {o q : Asked} {old facts : List PositionFact} (vo : View o old) (v : Vi
   abbrev Claims : ℕ → Bool
   Claims n = q .has n && (FreshAfter (q .up n) n || FreshBefore (q .up n) n)
 
-  pub claims-in : (a : PositionFact) → a ∈ facts → (a ∈ old → ⊥) → (g : ParentGiven) → g ∈ parentsGiven a
-      → T (q .has (g .number)
-      && (fresh (o .after (q .up (g .number)) (g .number)) (q .after (q .up (g .number)) (g .number))
-      || fresh (o .before (q .up (g .number)) (g .number)) (q .before (q .up (g .number)) (g .number))))
+  claims-in : (a : PositionFact) → a ∈ facts → (a ∈ old → ⊥) → (g : ParentGiven) → g ∈ parentsGiven a
+      → T (Claims (g .number))
   claims-in a m h g i =
       let w = given-up v a m g i in
       let u = given-out g a i in
@@ -91,8 +89,7 @@ module _ {o q : Asked} {old facts : List PositionFact} (vo : View o old) (v : Vi
             (subst (λ (z : ℕ). T (FreshBefore (a .parent) z)) (sym d) (edit-before a m h)))
       ])
 
-  pub claims-out : (n : ℕ)
-      → T (q .has n && (fresh (o .after (q .up n) n) (q .after (q .up n) n) || fresh (o .before (q .up n) n) (q .before (q .up n) n)))
+  claims-out : (n : ℕ) → T (Claims n)
       → (a : PositionFact) × (a ∈ facts) × (a ∈ old → ⊥) × (parentGiven n (q .up n) ∈ parentsGiven a)
   claims-out n t =
       let w = and-yes (q .has n) (FreshAfter (q .up n) n || FreshBefore (q .up n) n) t in
@@ -137,7 +134,7 @@ module _ (q : ℕ → Asked) (old : Facts) (branches : List Facts) (w : Views q 
   pub fresh-after-edit : (k r p : ℕ) → IsBranch k → T (freshAfter q k r p) → Edit k (position r p (q k .after r p))
   fresh-after-edit k r p b t = let x = after-edit view-old (w .view k (b .1)) r p t in (b, x .0, x .1)
 
-  pub fresh-before-edit : (k r s : ℕ) → IsBranch k → T (freshBefore q k r s) → Edit k (position r (q k .before r s) s)
+  fresh-before-edit : (k r s : ℕ) → IsBranch k → T (freshBefore q k r s) → Edit k (position r (q k .before r s) s)
   fresh-before-edit k r s b t = let x = before-edit view-old (w .view k (b .1)) r s t in (b, x .0, x .1)
 
   -- ---- 22
@@ -215,7 +212,7 @@ module _ (q : ℕ → Asked) (old : Facts) (branches : List Facts) (w : Views q 
       (yes-and (eqb s s) _ (eqb-refl s) (c .1))))
 
   -- where a clash shows: at a fact of some branch
-  abbrev pub Shows : ℕ → Type 0
+  abbrev Shows : ℕ → Type 0
   Shows r = (k : ℕ) × IsBranch k × ((a : PositionFact) × (a ∈ factsAt old branches k) × (a .parent ≡ r)
       × (T (twoFollowers q k (a .parent) (a .before)) ⊎ T (twoForerunners q k (a .parent) (a .after))))
 

@@ -1,7 +1,7 @@
 -- Which old facts are kept, and who follows by the kept facts, read off the answers of the tables. q k is asked of table k, and table 0 is
 -- old; a and b are facts, r is a parent, p the one before, s the one after, n a record, k a branch. Assumes nothing.
 use mathlib.Core.Path.{_≡_, refl, sym, _∙_, subst}
-use mathlib.Core.Logic.{_⊎_, inl, inr, _↔_}
+use mathlib.Core.Logic.{_⊎_, inl, inr}
 use mathlib.Core.Bool.{Bool, true, false, not, _&&_, cond}
 use mathlib.Core.List.{List, map}
 use Prim.Native.Nat.{ℕ, _<_}
@@ -13,7 +13,7 @@ use Rattle.rules.specs.Marks.{START, END, isRecord}
 use Rattle.rules.specs.Facts.{PositionFact, ParentGiven, Facts, positionsOf, position, parentsGiven, positionsDisagree}
 use Rattle.rules.specs.Merge.{positionEdits, keptPositions}
 use Rattle.trees.proofs.Marks.{record-low}
-use Rattle.trees.proofs.Lists.{or-left, or-right, either}
+use Rattle.trees.proofs.Lists.{or-left, or-right, either, is-true}
 use Rattle.trees.proofs.Kept.{Coherent, Agrees, kept-cases, edit-kept, old-kept}
 use Rattle.trees.proofs.Disagreeing.{position-tells, positions-agree, one-after, one-before, one-parent, given-in, given-out, Given}
 use Rattle.facts.specs.Asked.{Asked, lists}
@@ -23,10 +23,6 @@ use Rattle.edits.specs.Positions.{freshAfter, afterSource, knows, unknow
 use Rattle.edits.proofs.Branches.{IsBranch, first-yes, first-some, all-at, all-are}
 use Rattle.edits.proofs.Clashing.{Views, view-old, is-edit, edit-is, fresh-after-edit, edit-after}
 
-cond-yes : (t a b : Bool) → T t → T a → T (cond t a b)
-cond-yes true a b t h = h
-cond-yes false a b t h = absurd t
-
 -- ---- what one table knows
 
 module _ {q : Asked} {facts : List PositionFact} (v : View q facts) where
@@ -34,26 +30,19 @@ module _ {q : Asked} {facts : List PositionFact} (v : View q facts) where
   Knows r n = knows (q .has) r n
 
   -- both ends of a fact are known
-  pub known-before : (a : PositionFact) → a ∈ facts → T (knows (q .has) (a .parent) (a .before))
-  known-before a m = go (isRecord (a .before)) refl
+  known-end : (a : PositionFact) → a ∈ facts → (n : ℕ) → (n ≡ a .before) ⊎ (n ≡ a .after) → T (knows (q .has) (a .parent) n)
+  known-end a m n s = go (isRecord n) refl
     where
-      go : (t : Bool) → isRecord (a .before) ≡ t → T (cond t (q .has (a .before)) (lists q (a .parent)))
-      go true e = v .owner a m (a .before) (subst T (sym e) tt) (inl refl) .0
-      go false e = v .listed a m
-
-  pub known-after : (a : PositionFact) → a ∈ facts → T (knows (q .has) (a .parent) (a .after))
-  known-after a m = go (isRecord (a .after)) refl
-    where
-      go : (t : Bool) → isRecord (a .after) ≡ t → T (cond t (q .has (a .after)) (lists q (a .parent)))
-      go true e = v .owner a m (a .after) (subst T (sym e) tt) (inr refl) .0
+      go : (t : Bool) → isRecord n ≡ t → T (cond t (q .has n) (lists q (a .parent)))
+      go true e = v .owner a m n (subst T (sym e) tt) s .0
       go false e = v .listed a m
 
   -- a record in a fact of this table is known, under whatever parent
-  pub known-record : (a : PositionFact) → a ∈ facts → (n r : ℕ) → T (isRecord n) → (n ≡ a .before) ⊎ (n ≡ a .after) → T (knows (q .has) r n)
-  known-record a m n r t s = cond-yes (isRecord n) (q .has n) (lists q r) t (v .owner a m n t s .0)
+  known-record : (a : PositionFact) → a ∈ facts → (n r : ℕ) → T (isRecord n) → (n ≡ a .before) ⊎ (n ≡ a .after) → T (knows (q .has) r n)
+  known-record a m n r t s = rw (is-true (isRecord n) t) (v .owner a m n t s .0)
 
   -- what is known has a fact onward, or a fact from before
-  pub leaves : (r p : ℕ) → T (isRecord p) ⊎ (p ≡ START) → T (knows (q .has) r p)
+  leaves : (r p : ℕ) → T (isRecord p) ⊎ (p ≡ START) → T (knows (q .has) r p)
       → (a : PositionFact) × (a ∈ facts) × (a .before ≡ p) × (T (isRecord p) ⊎ (a .parent ≡ r))
   leaves r p s t = go (isRecord p) refl s t
     where
@@ -63,13 +52,12 @@ module _ {q : Asked} {facts : List PositionFact} (v : View q facts) where
         position (q .up p) p (q .after (q .up p) p),
         v .from-after (q .up p) p (v .placed p t .1),
         refl,
-        inl
-            (subst T (sym e) tt),
+        inl (subst T (sym e) tt),
       )
       go false e (inl k) t = absurd (subst T e k)
       go false e (inr k) t = (position r START (q .after r START), v .from-after r START (v .ends r t .0), sym k, inr refl)
 
-  pub enters : (r s : ℕ) → T (isRecord s) ⊎ (s ≡ END) → T (knows (q .has) r s)
+  enters : (r s : ℕ) → T (isRecord s) ⊎ (s ≡ END) → T (knows (q .has) r s)
       → (a : PositionFact) × (a ∈ facts) × (a .after ≡ s) × (T (isRecord s) ⊎ (a .parent ≡ r))
   enters r s k t = go (isRecord s) refl k t
     where
@@ -79,14 +67,13 @@ module _ {q : Asked} {facts : List PositionFact} (v : View q facts) where
         position (q .up s) (q .before (q .up s) s) s,
         v .from-before (q .up s) s (v .placed s t .2),
         refl,
-        inl
-            (subst T (sym e) tt),
+        inl (subst T (sym e) tt),
       )
       go false e (inl k) t = absurd (subst T e k)
       go false e (inr k) t = (position r (q .before r END) END, v .from-before r END (v .ends r t .1), sym k, inr refl)
 
   -- a table that knows the place keeps a fact there only if it has it
-  pub held : (r p s : ℕ) → T (isRecord s) → T (knows (q .has) r p) → T (keeps q r p s) → T (q .has s)
+  held : (r p s : ℕ) → T (isRecord s) → T (knows (q .has) r p) → T (keeps q r p s) → T (q .has s)
   held r p s t k h =
       elim (or-yes (eqb (q .after r p) s) (unknown (q .has) r p s) h) [
         | inl e ↦ let a = position r p s in
@@ -107,7 +94,7 @@ module _ {o q : Asked} {old facts : List PositionFact} (vo : View o old) (v : Vi
   S = knows (q .has) (a .parent) (a .after)
 
   -- a fact that the branch keeps disagrees with none of its facts
-  pub keeps-agrees : T (keeps q (a .parent) (a .before) (a .after)) → (b : PositionFact) → b ∈ facts → T (positionsDisagree a b) → ⊥
+  keeps-agrees : T (keeps q (a .parent) (a .before) (a .after)) → (b : PositionFact) → b ∈ facts → T (positionsDisagree a b) → ⊥
   keeps-agrees h b k t =
       elim (or-yes E (not P && not S) h) [
         | inl e ↦ view-coherent v a b (has-after v a (after-low vo a m) (eqb→eq _ _ e)) k t
@@ -133,13 +120,13 @@ module _ {o q : Asked} {old facts : List PositionFact} (vo : View o old) (v : Vi
       none np ns =
           positions-agree a b
           (λ e d. absurd (np (subst (λ (n : ℕ). T (knows (q .has) n (a .before))) (sym e)
-          (subst (λ (n : ℕ). T (knows (q .has) (b .parent) n)) (sym d) (known-before v b k)))))
+          (subst (λ (n : ℕ). T (knows (q .has) (b .parent) n)) (sym d) (known-end v b k (b .before) (inl refl))))))
           (λ e d. absurd (ns (subst (λ (n : ℕ). T (knows (q .has) n (a .after))) (sym e)
-          (subst (λ (n : ℕ). T (knows (q .has) (b .parent) n)) (sym d) (known-after v b k)))))
+          (subst (λ (n : ℕ). T (knows (q .has) (b .parent) n)) (sym d) (known-end v b k (b .after) (inr refl))))))
           (same-parent np ns) t
 
   -- and where no edit of the branch disagrees, the branch keeps it
-  pub agrees-keeps : ((b : PositionFact) → b ∈ facts → (b ∈ old → ⊥) → T (positionsDisagree a b) → ⊥)
+  agrees-keeps : ((b : PositionFact) → b ∈ facts → (b ∈ old → ⊥) → T (positionsDisagree a b) → ⊥)
       → T (keeps q (a .parent) (a .before) (a .after))
   agrees-keeps h = go (either E)
     where
@@ -191,31 +178,28 @@ module _ (q : ℕ → Asked) (old : Facts) (branches : List Facts) (w : Views q 
   unfolding keptPositions positionEdits
   kept-edit a m = edit-kept position-tells (old .positions) (map positionsOf branches) positionsDisagree a m
 
-  pub keeps-kept : (a : PositionFact) → a ∈ old .positions → ((k : ℕ) → IsBranch k → T (keeps (q k) (a .parent) (a .before) (a .after)))
-      → a ∈ keptPositions old branches
+  -- an old fact is kept exactly if each branch has it or knows neither of its ends
+  keeps-kept : (a : PositionFact) → a ∈ old .positions → ((k : ℕ) → IsBranch k → KeptBy k a) → a ∈ keptPositions old branches
   unfolding keptPositions positionEdits
   keeps-kept a m h =
       old-kept position-tells (old .positions) (map positionsOf branches) positionsDisagree a m (λ b i.
       let e = edit-is q old branches w b i in
       keeps-agrees vo (w .view (e .0) (e .1 .0 .1)) a m (h (e .0) (e .1 .0)) b (e .1 .1))
 
-  pub kept-split : (a : PositionFact) → a ∈ keptPositions old branches
-      → (a ∈ positionEdits old branches) ⊎ ((a ∈ old .positions) × Agrees positionsDisagree a (positionEdits old branches))
+  -- a kept fact is an edit, or an old fact with which no edit disagrees
+  abbrev Split : PositionFact → Type 0
+  Split a = (a ∈ positionEdits old branches) ⊎ ((a ∈ old .positions) × Agrees positionsDisagree a (positionEdits old branches))
+
+  kept-split : (a : PositionFact) → a ∈ keptPositions old branches → Split a
   unfolding keptPositions positionEdits
   kept-split a m = kept-cases position-tells (old .positions) (map positionsOf branches) positionsDisagree a m
 
-  pub kept-keeps : (a : PositionFact) → a ∈ old .positions → a ∈ keptPositions old branches
-      → (k : ℕ) → IsBranch k → T (keeps (q k) (a .parent) (a .before) (a .after))
+  kept-keeps : (a : PositionFact) → a ∈ old .positions → a ∈ keptPositions old branches → (k : ℕ) → IsBranch k → KeptBy k a
   kept-keeps a m i k b =
       elim (kept-split a i) [
         | inl e ↦ absurd (edit-is q old branches w a e .1 .2 m)
         | inr x ↦ agrees-keeps vo (w .view k (b .1)) a m (λ c j n. x .1 c (is-edit q old branches w k c (b, j, n)))
       ]
-
-  -- an old fact is kept exactly if each branch has it or knows neither of its ends
-  pub kept-rule : (a : PositionFact) → a ∈ old .positions
-      → (a ∈ keptPositions old branches) ↔ ((k : ℕ) → IsBranch k → T (keeps (q k) (a .parent) (a .before) (a .after)))
-  kept-rule a m = (kept-keeps a m, keeps-kept a m)
 
   -- ---- who follows
 
@@ -227,7 +211,7 @@ module _ (q : ℕ → Asked) (old : Facts) (branches : List Facts) (w : Views q 
     source = afterSource q r p
 
     abbrev all : Bool
-    all = allBranches (λ k. keeps (q k) r p (q 0 .after r p))
+    all = allBranches (λ k. keeps (q k) r p o)
 
     abbrev InKept : ℕ → Type 0
     InKept s = 0 < s → position r p s ∈ keptPositions old branches
@@ -236,45 +220,37 @@ module _ (q : ℕ → Asked) (old : Facts) (branches : List Facts) (w : Views q 
     pub goes-kept : 0 < keptAfter q r p → position r p (keptAfter q r p) ∈ keptPositions old branches
     goes-kept = go (ltb 0 source) refl
       where
-        old-goes : (b : Bool) → allBranches (λ k. keeps (q k) r p (q 0 .after r p)) ≡ b → InKept (cond b (q 0 .after r p) 0)
-        old-goes true e = λ h. keeps-kept (position r p (q 0 .after r p)) (vo .from-after r p h)
-            (λ k b. all-at (λ j. keeps (q j) r p (q 0 .after r p)) k b (subst T (sym e) tt))
+        old-goes : (b : Bool) → all ≡ b → InKept (cond b o 0)
+        old-goes true e = λ h. keeps-kept (position r p o) (vo .from-after r p h)
+            (λ k b. all-at (λ j. keeps (q j) r p o) k b (subst T (sym e) tt))
         old-goes false e = λ h. absurd (omega arith)
 
-        go : (b : Bool) → ltb 0 (afterSource q r p) ≡ b → InKept
-            (cond b (q (afterSource q r p) .after r p) (keptOld q r p (q 0 .after r p)))
+        go : (b : Bool) → ltb 0 source ≡ b → InKept (cond b (q source .after r p) (keptOld q r p o))
         go true e = λ h.
-            let f = first-yes (λ k. freshAfter q k r p) (ltb→lt 0 (afterSource q r p) (subst T (sym e) tt)) in
-            kept-edit _ (is-edit q old branches w (afterSource q r p) (position r p (q (afterSource q r p) .after r p))
-            (fresh-after-edit q old branches w (afterSource q r p) r p (f .1) (f .0)))
-        go false e = old-goes (allBranches (λ k. keeps (q k) r p (q 0 .after r p))) refl
+            let f = first-yes (λ k. freshAfter q k r p) (ltb→lt 0 source (subst T (sym e) tt)) in
+            kept-edit _ (is-edit q old branches w source (position r p (q source .after r p))
+            (fresh-after-edit q old branches w source r p (f .1) (f .0)))
+        go false e = old-goes all refl
 
     -- what is kept goes on
     kept-on : (s : ℕ) → position r p s ∈ keptPositions old branches → 0 < keptAfter q r p
     kept-on s m = go (ltb 0 source) refl (kept-split (position r p s) m)
       where
-        a : PositionFact
-        a = position r p s
-
-        old-on : (b : Bool) → allBranches (λ k. keeps (q k) r p (q 0 .after r p)) ≡ b → position r p s ∈ old .positions
-            → 0 < cond b (q 0 .after r p) 0
+        old-on : (b : Bool) → all ≡ b → position r p s ∈ old .positions → 0 < cond b o 0
         old-on true e i = subst (λ (n : ℕ). 0 < n) (sym (vo .to-after (position r p s) i)) (after-low vo (position r p s) i)
         old-on false e i =
-            absurd (subst T e (all-are (λ k. keeps (q k) r p (q 0 .after r p)) (λ k b.
+            absurd (subst T e (all-are (λ k. keeps (q k) r p o) (λ k b.
             subst (λ (n : ℕ). T (keeps (q k) r p n)) (sym (vo .to-after (position r p s) i)) (kept-keeps (position r p s) i m k b))))
 
-        go : (b : Bool) → ltb 0 (afterSource q r p) ≡ b
-            → (position r p s ∈ positionEdits old branches) ⊎
-            ((position r p s ∈ old .positions) × Agrees positionsDisagree (position r p s) (positionEdits old branches))
-            → 0 < cond b (q (afterSource q r p) .after r p) (keptOld q r p (q 0 .after r p))
+        go : (b : Bool) → ltb 0 source ≡ b → Split (position r p s) → 0 < cond b (q source .after r p) (keptOld q r p o)
         go true e d =
-            let f = first-yes (λ k. freshAfter q k r p) (ltb→lt 0 (afterSource q r p) (subst T (sym e) tt)) in
-            ltb→lt 0 (q (afterSource q r p) .after r p) (and-yes (ltb 0 (q (afterSource q r p) .after r p)) _ (f .0) .0)
+            let f = first-yes (λ k. freshAfter q k r p) (ltb→lt 0 source (subst T (sym e) tt)) in
+            ltb→lt 0 (q source .after r p) (and-yes (ltb 0 (q source .after r p)) _ (f .0) .0)
         go false e (inl i) =
             let x = edit-is q old branches w (position r p s) i in
             let t = edit-after vo (w .view (x .0) (x .1 .0 .1)) (position r p s) (x .1 .1) (x .1 .2) in
-            absurd (subst T e (lt→ltb 0 (afterSource q r p) (first-some (λ k. freshAfter q k r p) (x .0) (x .1 .0) t)))
-        go false e (inr x) = old-on (allBranches (λ k. keeps (q k) r p (q 0 .after r p))) refl (x .0)
+            absurd (subst T e (lt→ltb 0 source (first-some (λ k. freshAfter q k r p) (x .0) (x .1 .0) t)))
+        go false e (inr x) = old-on all refl (x .0)
 
     pub kept-goes : Coherent positionsDisagree (keptPositions old branches) → (s : ℕ) → position r p s ∈ keptPositions old branches
         → keptAfter q r p ≡ s
@@ -285,21 +261,12 @@ module _ (q : ℕ → Asked) (old : Facts) (branches : List Facts) (w : Views q 
 
   pub reach : (r p : ℕ) → (k : ℕ) × IsBranch k × T (knows (q k .has) r p) → T (isRecord (keptAfter q r p))
       → (k : ℕ) × IsBranch k × T (q k .has (keptAfter q r p))
-  reach r p (k, b, t) rec = go (kept-split x m)
+  reach r p (k, b, t) rec = go (kept-split (position r p (keptAfter q r p)) m)
     where
-      s : ℕ
-      s = keptAfter q r p
-
-      x : PositionFact
-      x = position r p (keptAfter q r p)
-
       m : position r p (keptAfter q r p) ∈ keptPositions old branches
       m = goes-kept r p (record-low (keptAfter q r p) rec)
 
-      go : (position r p (keptAfter q r p) ∈ positionEdits old branches)
-          ⊎ ((position r p (keptAfter q r p) ∈ old .positions) × Agrees positionsDisagree (position r p (keptAfter q r p))
-          (positionEdits old branches))
-          → (k : ℕ) × IsBranch k × T (q k .has (keptAfter q r p))
+      go : Split (position r p (keptAfter q r p)) → (k : ℕ) × IsBranch k × T (q k .has (keptAfter q r p))
       go (inl i) =
           let e = edit-is q old branches w (position r p (keptAfter q r p)) i in
           (e .0, e .1 .0, w .view (e .0) (e .1 .0 .1) .owner (position r p (keptAfter q r p)) (e .1 .1) (keptAfter q r p) rec (inr refl) .0)

@@ -2,7 +2,7 @@
 -- known by its number. x is a fact, k a table's number. Assumes nothing.
 use mathlib.Core.Path.{_≡_, refl, sym, subst}
 use mathlib.Core.Bool.{Bool}
-use mathlib.Core.List.{List, [], _∷_, List·Memᴰ·head as here, List·Memᴰ·tail as there, List·Memᴰ·not-nil}
+use mathlib.Core.List.{List, [], _∷_, map, List·Memᴰ·head as here, List·Memᴰ·tail as there, List·Memᴰ·not-nil}
 use Prim.Native.Nat.{ℕ, zero, suc, _<_}
 use native.Mathlib.Omega.{arith}
 use lib.ListN.{length, getD}
@@ -24,6 +24,12 @@ module _ {A : Type 0} where
   in-at [] x d m = absurd (List·Memᴰ·not-nil m)
   in-at (y ∷ xs) x d (here e) = (0, omega arith, sym e)
   in-at (y ∷ xs) x d (there m) = let w = in-at xs x d m in (suc (w .0), omega (arith, w .1), w .2)
+
+-- what stands in a mapped list
+pub at-map : {A B : Type 0} (f : A → B) (xs : List A) (j : ℕ) (d : A) (e : B) → j < length xs → getD (map f xs) j e ≡ f (getD xs j d)
+at-map f [] j d e h = absurd (omega arith)
+at-map f (x ∷ xs) zero d e h = refl
+at-map f (x ∷ xs) (suc j) d e h = at-map f xs j d e (omega arith)
 
 module _ {A : Type 0} {same : A → A → Bool} (tells : Tells same) (old : List A) (branches : List (List A))
     (many : length branches ≡ BRANCHES) where

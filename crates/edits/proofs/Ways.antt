@@ -1,9 +1,10 @@
 -- What each question on the tables answers, way by way through its code: the premises are what the code has tested and asked. A and B
 -- are what is to be answered, z and w what was; o, s, u are neighbours, r is a parent, n a record. Assumes nothing.
 use mathlib.Core.Path.{_≡_, refl, sym, ap, _∙_}
-use mathlib.Core.Bool.{Bool, true, false, not, _&&_, _||_, cond}
+use mathlib.Core.Bool.{Bool, true, false, not, _&&_, _||_, cond, and-true, and-assoc}
 use Prim.Native.Nat.{ℕ, suc, _+_, _-_, _<_, _≤_, min}
 use native.Mathlib.Omega.{arith}
+use native.Mathlib.Numerals.{add-one}
 use lib.Dec.{eqb, ltb}
 use borrow.Author.Tests.{lt-ltb, eq-eqb, ne-eqb}
 use borrow.Author.Needs.{needs}
@@ -144,30 +145,19 @@ module _ (q : ℕ → Asked) where
       so-far = step (TABLES - t) (TABLES - (t + 1)) (omega arith) (w .so-far);
     }
       where
-        assoc : (a b c : Bool) → ((a && b) && c) ≡ (a && (b && c))
-        assoc true b c = refl
-        assoc false b c = refl
-
         step : (m l : ℕ) → m ≡ suc l → (kept && allFrom (λ k. keeps (q k) r p o) t m) ≡ allBranches (λ k. keeps (q k) r p o)
             → (kept′ && allFrom (λ k. keeps (q k) r p o) (t + 1) l) ≡ allBranches (λ k. keeps (q k) r p o)
         step m l e g =
             ap (λ (b : Bool). b && allFrom (λ k. keeps (q k) r p o) (t + 1) l)
             (ek ∙ ap (λ (x : ℕ). kept && (eqb x o || unknown (q t .has) r p o)) es)
-            ∙ assoc kept (keeps (q t) r p o) (allFrom (λ k. keeps (q k) r p o) (t + 1) l)
-            ∙ ap (λ (j : ℕ). kept && (keeps (q t) r p o && allFrom (λ k. keeps (q k) r p o) j l)) (sym next)
+            ∙ and-assoc kept (keeps (q t) r p o) (allFrom (λ k. keeps (q k) r p o) (t + 1) l)
+            ∙ ap (λ (j : ℕ). kept && (keeps (q t) r p o && allFrom (λ k. keeps (q k) r p o) j l)) (add-one t)
             ∙ ap (λ (j : ℕ). kept && allFrom (λ k. keeps (q k) r p o) t j) (sym e)
             ∙ g
-          where
-            next : suc t ≡ t + 1
-            next = omega arith
 
     going-all : (o t : ℕ) (kept : Bool) → Going o kept t → TABLES ≤ t → allBranches (λ k. keeps (q k) r p o) ≡ kept
     going-all o t kept w h = sym (go (TABLES - t) (omega arith) (w .so-far))
       where
-        and-true : (b : Bool) → (b && true) ≡ b
-        and-true true = refl
-        and-true false = refl
-
         go : (m : ℕ) → m ≡ 0 → (kept && allFrom (λ k. keeps (q k) r p o) t m) ≡ allBranches (λ k. keeps (q k) r p o)
             → kept ≡ allBranches (λ k. keeps (q k) r p o)
         go m e g = sym (and-true kept) ∙ ap (λ (j : ℕ). kept && allFrom (λ k. keeps (q k) r p o) t j) (sym e) ∙ g
