@@ -20,7 +20,7 @@ use Rattle.rules.specs.Calls.{checked, tidyTold, tidyOf, tidyInto, noPart, part
 use Rattle.rules.specs.Promises.{Checks, Tidies, IsPart, HandsBack}
 use Rattle.readback.proofs.Following.{good-readable, good-few}
 use Rattle.readback.proofs.Faults.{stands-in, in-stands}
-use Rattle.readback.proofs.Accepting.{accepted-text, good, refused-code}
+use Rattle.readback.proofs.Accepting.{accepted-text, good}
 use Rattle.readback.proofs.Tidying.{tidied-length}
 use Rattle.readback.proofs.Parts.{part-none, part-content, part-within}
 use Rattle.facts.specs.Memory.{ROOM, PLACE, LENGTH, SPAN, startOf, textOf, lineAt, field}
@@ -28,7 +28,8 @@ use Rattle.facts.specs.Asked.{hasIn}
 use Rattle.facts.specs.Holds.{Holds}
 use Rattle.rules.specs.declared.answers.Part.{Part}
 use Rattle.table.specs.declared.Read.{Read}
-use Rattle.table.specs.Read.{readTold, Reads}
+use Rattle.table.specs.Read.{Reads}
+use Rattle.table.proofs.Answers.{Accepted, refused, accepted}
 use Rattle.write.specs.Stored.{partIn, Lies, HasContent, contentAt, Stored}
 use Rattle.write.specs.Writing.{TableReady, TableWritten}
 use Rattle.trees.proofs.OneTable.{number-row, row-number}
@@ -71,69 +72,39 @@ module _ (text ls fs : List ℕ) (a : Read) (w : Reads text ls fs a) (t : List R
           (sym (part-content text t q x m) ∙ (λ i. take (sym k i) (drop (sym s i) text)))
 
 module _ (text ls fs : List ℕ) (a : Read) (w : Reads text ls fs a) where
-  -- the verdict's own numbers
-  tells : (v : Verdict) → verdict text ≡ v → a ≡ readTold v
-  tells v q = w .answered ∙ ap readTold q
-
   -- ---- refused
-
-  record Refused : Type 0 where
-    code : ℕ
-    line : ℕ
-    is : verdict text ≡ unreadable code line
-    code-is : a .code ≡ code
-    line-is : a .line ≡ line
-
-  refused : (a .code ≡ 0 → ⊥) → Refused
-  refused f = go (verdict text) refl
-    where
-      go : (v : Verdict) → verdict text ≡ v → Refused
-      go (readable t) q = absurd (f (ap (λ (z : Read). z .code) (tells (readable t) q)))
-      go (unreadable c l) q =
-          let e = tells (unreadable c l) q in
-          record { code = c; line = l; is = q; code-is = ap (λ (z : Read). z .code) e; line-is = ap (λ (z : Read). z .line) e }
 
   pub check-refused : (code line : ℕ) → code ≡ a .code → line ≡ a .line → (code ≡ 0 → ⊥)
       → Checks text (record { code = code; line = line; count = 0; depth = 0 })
-  check-refused code line e d f =
-      let r = refused (λ z. f (e ∙ z)) in
-      record {
-        answered =
-            (λ i. record { code = (e ∙ r .code-is) i; line = (d ∙ r .line-is) i; count = 0; depth = 0 }) ∙ ap checked (sym (r .is));
-      }
+  check-refused code line e d f = record {
+    answered =
+        (λ i. record { code = e i; line = d i; count = 0; depth = 0 })
+        ∙ ap checked (sym (refused text ls fs a w (λ z. f (e ∙ z))));
+  }
 
   pub tidy-refused : (buffer : List ℕ) (code line : ℕ) → code ≡ a .code → line ≡ a .line → (code ≡ 0 → ⊥)
       → Tidies text buffer (tidyTold code line 0) buffer
   tidy-refused buffer code line e d f =
-      let r = refused (λ z. f (e ∙ z)) in
+      let r = refused text ls fs a w (λ z. f (e ∙ z)) in
       record {
-        answered =
-            (λ i. tidyTold ((e ∙ r .code-is) i) ((d ∙ r .line-is) i) 0) ∙ ap (λ (v : Verdict). tidyOf v (length buffer)) (sym (r .is));
-        buffered = ap (λ (v : Verdict). tidyInto v buffer) (sym (r .is));
+        answered = (λ i. tidyTold (e i) (d i) 0) ∙ ap (λ (v : Verdict). tidyOf v (length buffer)) (sym r);
+        buffered = ap (λ (v : Verdict). tidyInto v buffer) (sym r);
       }
 
   pub part-refused : (n : ℕ) (p : Part) → (a .code ≡ 0 → ⊥) → p ≡ noPart → p ≡ contentAnswer text n
-  part-refused n p f e = e ∙ ap (λ (v : Verdict). partOf v text n) (sym (refused f .is))
+  part-refused n p f e = e ∙ ap (λ (v : Verdict). partOf v text n) (sym (refused text ls fs a w f))
 
   -- ---- accepted
 
   module _ (fine : a .code ≡ 0) where
-    -- the table that was read
-    record Table : Type 0 where
-      t : List Row
-      is : verdict text ≡ readable t
-      counted : a .count ≡ length t
-
-    table : Table
-    table = go (verdict text) refl
-      where
-        go : (v : Verdict) → verdict text ≡ v → Table
-        go (readable t) q = record { t = t; is = q; counted = ap (λ (z : Read). z .count) (tells (readable t) q) }
-        go (unreadable c l) q =
-            absurd (refused-code text c l q (sym (ap (λ (z : Read). z .code) (tells (unreadable c l) q)) ∙ fine))
+    table : Accepted text a
+    table = accepted text ls fs a w fine
 
     abbrev t : List Row
     t = table .t
+
+    counted : a .count ≡ length t
+    counted = ap (λ (z : Read). z .count) (table .answer)
 
     holds : Holds ls fs t
     holds = w .held t (table .is)
@@ -145,7 +116,7 @@ module _ (text ls fs : List ℕ) (a : Read) (w : Reads text ls fs a) where
     few = omega (arith, good-few t (good text t (table .is)))
 
     pub check-climbs : Climbs ls fs (a .count)
-    check-climbs = subst (Climbs ls fs) (sym (table .counted)) (climbs ls fs t holds ok few)
+    check-climbs = subst (Climbs ls fs) (sym (counted)) (climbs ls fs t holds ok few)
 
     pub check-accepted : (code count d : ℕ) → code ≡ a .code → count ≡ a .count → d ≡ greatestOn ls fs count
         → Checks text (record { code = code; line = 0; count = count; depth = d })
@@ -154,8 +125,8 @@ module _ (text ls fs : List ℕ) (a : Read) (w : Reads text ls fs a) where
           (λ i. record {
             code = (e ∙ fine) i;
             line = 0;
-            count = (q ∙ table .counted) i;
-            depth = (f ∙ ap (greatestOn ls fs) (q ∙ table .counted) ∙ greatest ls fs t holds ok few) i;
+            count = (q ∙ counted) i;
+            depth = (f ∙ ap (greatestOn ls fs) (q ∙ counted) ∙ greatest ls fs t holds ok few) i;
           })
           ∙ ap checked (sym (table .is));
     }
@@ -178,7 +149,7 @@ module _ (text ls fs : List ℕ) (a : Read) (w : Reads text ls fs a) where
         }
 
     pub tidy-ready : (buffer : List ℕ) → length text ≤ length buffer → TableReady (text ∷ []) ls fs (a .count) (length buffer)
-    tidy-ready buffer h = record { t = t; stored = stored; counted = table .counted; fits = omega (arith, long) }
+    tidy-ready buffer h = record { t = t; stored = stored; counted = counted; fits = omega (arith, long) }
 
     pub tidy-accepted : (buffer buffer′ : List ℕ) (code : ℕ) → code ≡ a .code → length text ≤ length buffer
         → TableWritten (text ∷ []) ls fs buffer buffer′ → Tidies text buffer (tidyTold code 0 (length text)) buffer′

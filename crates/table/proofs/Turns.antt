@@ -5,6 +5,7 @@ use mathlib.Core.Path.{_≡_, refl, sym, ap, _∙_, subst}
 use mathlib.Core.List.{List, [], _∷_, _++_, map, append-assoc, append-nil}
 use Prim.Native.Nat.{ℕ, suc, _+_, _-_, _<_, _≤_}
 use native.Mathlib.Omega.{arith}
+use native.Mathlib.Numerals.{suc-eq-add-one}
 use mir.Val.{Fits}
 use mir.Syntax.{w32, w64}
 use denote.Ref.{RefT, now}
@@ -15,11 +16,11 @@ use borrow.Author.Count.{below-more}
 use Rattle.rules.specs.Line.{Row}
 use Rattle.rules.specs.Table.{Verdict, readable, unreadable, verdict}
 use Rattle.rules.specs.Calls.{Outcome, onceRead, onceAllRead}
-use Rattle.readback.proofs.Accepting.{refused-code}
 use Rattle.facts.specs.Memory.{TABLES}
 use Rattle.table.specs.declared.Read.{Read}
-use Rattle.table.specs.Read.{told, readTold, Reads, Unread, Fills}
+use Rattle.table.specs.Read.{told, Reads, Unread, Fills}
 use Rattle.table.specs.All.{ReadsAll}
+use Rattle.table.proofs.Answers.{Accepted, refused, accepted}
 
 -- ---- one table
 
@@ -29,35 +30,13 @@ pub record Held (text ls fs : List ℕ) (count : ℕ) (u : List Row) : Type 0 wh
   pub reads : Reads text ls fs (told 0 0 (length u))
   pub counted : count ≡ length u
 
-module _ (text ls fs : List ℕ) (a : Read) (w : Reads text ls fs a) where
-  tells : (v : Verdict) → verdict text ≡ v → a ≡ readTold v
-  tells v q = w .answered ∙ ap readTold q
-
-  is-refused : (a .code ≡ 0 → ⊥) → verdict text ≡ unreadable (a .code) (a .line)
-  is-refused f = go (verdict text) refl
-    where
-      go : (v : Verdict) → verdict text ≡ v → verdict text ≡ unreadable (a .code) (a .line)
-      go (readable u) q = absurd (f (ap (λ (z : Read). z .code) (tells (readable u) q)))
-      go (unreadable c l) q =
-          let e = sym (tells (unreadable c l) q) in
-          q ∙ (λ i. unreadable (e i .code) (e i .line))
-
-  record Table (count : ℕ) : Type 0 where
-    u : List Row
-    held : Held text ls fs count u
-
-  table : (count : ℕ) → a .code ≡ 0 → count ≡ a .count → Table count
-  table count fine e = go (verdict text) refl
-    where
-      go : (v : Verdict) → verdict text ≡ v → Table count
-      go (readable u) q =
-          let d = tells (readable u) q in
-          record {
-            u = u;
-            held = record { is = q; reads = subst (Reads text ls fs) d w; counted = e ∙ ap (λ (z : Read). z .count) d };
-          }
-      go (unreadable c l) q =
-          absurd (refused-code text c l q (sym (ap (λ (z : Read). z .code) (tells (unreadable c l) q)) ∙ fine))
+held : (text ls fs : List ℕ) (a : Read) (w : Reads text ls fs a) (count : ℕ) (x : Accepted text a) → count ≡ a .count
+    → Held text ls fs count (x .t)
+held text ls fs a w count x e = record {
+  is = x .is;
+  reads = subst (Reads text ls fs) (x .answer) w;
+  counted = e ∙ ap (λ (z : Read). z .count) (x .answer);
+}
 
 -- ---- before table t
 
@@ -155,14 +134,14 @@ module _ (texts lines facts : List (List ℕ)) (counts : List ℕ) (t : ℕ) (s 
       }
         where
           is : verdict text ≡ unreadable code line
-          is = is-refused text ls fs a (w .read) (λ z. f (p ∙ z)) ∙ (λ i. unreadable (sym p i) (sym d i))
+          is = refused text ls fs a (w .read) (λ z. f (p ∙ z)) ∙ (λ i. unreadable (sym p i) (sym d i))
 
       module _ (code count : ℕ) (p : code ≡ a .code) (fine : code ≡ 0) (q : count ≡ a .count) where
-        read : Table text ls fs a (w .read) count
-        read = table text ls fs a (w .read) count (sym p ∙ fine) q
+        read : Accepted text a
+        read = accepted text ls fs a (w .read) (sym p ∙ fine)
 
         abbrev tables′ : List (List Row)
-        tables′ = s .tables ++ (read .u ∷ [])
+        tables′ = s .tables ++ (read .t ∷ [])
 
         abbrev HeldAt : ℕ → Type 0
         HeldAt k =
@@ -174,7 +153,7 @@ module _ (texts lines facts : List (List ℕ)) (counts : List ℕ) (t : ℕ) (s 
             let l = w .lines-stay k o in
             let f = w .facts-stay k o in
             let c = getD-set-other counts t k count 0 o in
-            let u = List·getD-append (s .tables) (read .u ∷ []) [] k (omega (arith, s .many)) in
+            let u = List·getD-append (s .tables) (read .t ∷ []) [] k (omega (arith, s .many)) in
             subst (λ (z : List ℕ). Held (getD texts k []) z (getD facts′ k []) (getD (set counts t count) k 0) (getD tables′ k [])) (sym l)
             (subst (λ (z : List ℕ). Held (getD texts k []) (getD lines k []) z (getD (set counts t count) k 0) (getD tables′ k [])) (sym f)
             (subst (λ (z : ℕ). Held (getD texts k []) (getD lines k []) (getD facts k []) z (getD tables′ k [])) (sym c)
@@ -183,22 +162,22 @@ module _ (texts lines facts : List (List ℕ)) (counts : List ℕ) (t : ℕ) (s 
         newest : HeldAt t
         newest =
             let c = getD-set-same counts t count 0 (omega (arith, s .counts-many)) in
-            let u : getD tables′ t [] ≡ read .u =
-            ap (λ (k : ℕ). getD tables′ k []) (sym (s .many)) ∙ getD-append-seam (s .tables) (read .u) [] [] in
+            let u : getD tables′ t [] ≡ read .t =
+            ap (λ (k : ℕ). getD tables′ k []) (sym (s .many)) ∙ getD-append-seam (s .tables) (read .t) [] [] in
             subst (λ (z : List ℕ). Held z ls fs (getD (set counts t count) t 0) (getD tables′ t [])) e
             (subst (λ (z : ℕ). Held text ls fs z (getD tables′ t [])) (sym c)
-            (subst (Held text ls fs count) (sym u) (read .held)))
+            (subst (Held text ls fs count) (sym u) (held text ls fs a (w .read) count read q)))
 
         pub turn-on : Turn texts lines′ facts′ (set counts t count) (t + 1)
         turn-on = record {
           tables = tables′;
-          many = omega (arith, s .many, length-append (s .tables) (read .u ∷ []));
+          many = omega (arith, s .many, length-append (s .tables) (read .t ∷ []));
           up = omega arith;
           texts-many = s .texts-many;
           counts-many = length-set counts t count ∙ s .counts-many;
           held = below-more HeldAt t older newest;
           unread = later;
-          same = λ next. sym (on next) ∙ first (readable (read .u)) (read .held .is) next;
+          same = λ next. sym (on next) ∙ first (readable (read .t)) (read .is) next;
         }
           where
             later : (k : ℕ) → t + 1 ≤ k → k < TABLES → Unread lines′ facts′ k
@@ -212,12 +191,9 @@ module _ (texts lines facts : List (List ℕ)) (counts : List ℕ) (t : ℕ) (s 
                 }
 
             on : (next : List (List Row) → Outcome)
-                → onceAllRead (suc (t + 1)) (drop (suc t) texts) (λ us. next (s .tables ++ (read .u ∷ us)))
+                → onceAllRead (suc (t + 1)) (drop (suc t) texts) (λ us. next (s .tables ++ (read .t ∷ us)))
                 ≡ onceAllRead (t + 1 + 1) (drop (t + 1) texts) (λ us. next (tables′ ++ us))
             on next i =
-                onceAllRead (one (t + 1) i) (drop (one t i) texts) (λ us. next (sym (append-assoc (s .tables) (read .u ∷ []) us) i))
-              where
-                one : (k : ℕ) → suc k ≡ k + 1
-                one k = omega arith
+                onceAllRead (suc-eq-add-one (t + 1) i) (drop (suc-eq-add-one t i) texts) (λ us. next (sym (append-assoc (s .tables) (read .t ∷ []) us) i))
 
 pub ruleset turns = (turn-start, turn-text, turn-end, turn-unread, turn-fits, turn-small, turn-less, turn-refused, turn-on, needs)
