@@ -194,6 +194,7 @@ module _ (texts lines facts : List (List ℕ)) (counts : List ℕ) (t : ℕ) (s 
                 → onceAllRead (suc (t + 1)) (drop (suc t) texts) (λ us. next (s .tables ++ (read .t ∷ us)))
                 ≡ onceAllRead (t + 1 + 1) (drop (t + 1) texts) (λ us. next (tables′ ++ us))
             on next i =
-                onceAllRead (suc-eq-add-one (t + 1) i) (drop (suc-eq-add-one t i) texts) (λ us. next (sym (append-assoc (s .tables) (read .t ∷ []) us) i))
+                onceAllRead (suc-eq-add-one (t + 1) i) (drop (suc-eq-add-one t i) texts)
+                (λ us. next (sym (append-assoc (s .tables) (read .t ∷ []) us) i))
 
 pub ruleset turns = (turn-start, turn-text, turn-end, turn-unread, turn-fits, turn-small, turn-less, turn-refused, turn-on, needs)
