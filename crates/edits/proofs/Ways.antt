@@ -8,12 +8,12 @@ use native.Mathlib.Numerals.{add-one}
 use lib.Dec.{eqb, ltb}
 use borrow.Author.Tests.{lt-ltb, eq-eqb, ne-eqb}
 use borrow.Author.Needs.{needs}
-use Rattle.rules.specs.Marks.{TOP, START, END, isRecord}
+use Rattle.rules.specs.Marks.{TOP, isRecord}
 use Rattle.facts.specs.Memory.{TABLES}
 use Rattle.facts.specs.Asked.{Asked}
 use Rattle.edits.specs.Branches.{firstBranch, allFrom, allBranches}
 use Rattle.edits.specs.Least.{place}
-use Rattle.edits.specs.Positions.{fresh, freshBeside, claims, parentSource, twoParents, torn, neighbourPlace, knows, unknown, keeps}
+use Rattle.edits.specs.Positions.{fresh, freshBeside, claims, parentSource, twoParents, knows, unknown, keeps}
 use Rattle.edits.specs.Positions.{keptAfter}
 use Rattle.edits.proofs.Branches.{Left, left-start, fresh-here, fresh-on, left-end}
 
@@ -79,20 +79,31 @@ pub ruleset ways = (
 
 -- ---- applied by hand
 
--- v has a neighbour for each table: that of table t is new, and compared with that of the first branch with a new one
-module _ (v : ℕ → ℕ) where
-  pub two-differ : (o t s k u : ℕ) (z : Bool) → o ≡ v 0 → s ≡ v t → z ≡ fresh o s → z ≡ true → k ≡ firstBranch (λ j. fresh o (v j))
-      → u ≡ v k → not (eqb s u) ≡ (fresh (v 0) (v t) && not (eqb (v t) (v (firstBranch (λ j. fresh (v 0) (v j))))))
-  two-differ o t s k u z eo es ez y ek eu =
-      let f : fresh (v 0) (v t) ≡ true = (λ i. fresh (sym eo i) (sym es i)) ∙ sym ez ∙ y in
-      let w : u ≡ v (firstBranch (λ j. fresh (v 0) (v j))) = eu ∙ ap v ek ∙ ap (λ (x : ℕ). v (firstBranch (λ j. fresh x (v j)))) eo in
-      (λ i. not (eqb (es i) (w i))) ∙ ap (λ (b : Bool). b && not (eqb (v t) (v (firstBranch (λ j. fresh (v 0) (v j)))))) (sym f)
+-- a neighbour b that is new beside old's a, compared with the neighbour c elsewhere
+module _ (a b c o s : ℕ) (z : Bool) (eo : o ≡ a) (es : s ≡ b) (ez : z ≡ fresh o s) where
+  pub new-differs : (u : ℕ) → z ≡ true → u ≡ c → not (eqb s u) ≡ (fresh a b && not (eqb b c))
+  new-differs u y eu =
+      and-then (fresh a b) (not (eqb b c)) z (not (eqb s u)) (fresh-of a b o s z eo es ez) y (λ i. not (eqb (es i) (eu i)))
 
-  pub two-not : (o t s : ℕ) (z : Bool) → o ≡ v 0 → s ≡ v t → z ≡ fresh o s → z ≡ false
-      → false ≡ (fresh (v 0) (v t) && not (eqb (v t) (v (firstBranch (λ j. fresh (v 0) (v j))))))
-  two-not o t s z eo es ez y =
-      let f : fresh (v 0) (v t) ≡ false = (λ i. fresh (sym eo i) (sym es i)) ∙ sym ez ∙ y in
-      ap (λ (b : Bool). b && not (eqb (v t) (v (firstBranch (λ j. fresh (v 0) (v j)))))) (sym f)
+  pub not-new : z ≡ false → false ≡ (fresh a b && not (eqb b c))
+  not-new y = and-stop (fresh a b) (not (eqb b c)) z (fresh-of a b o s z eo es ez) y
+
+-- with that of the first branch that has a new one; v has a neighbour for each table
+pub first-differs : (v : ℕ → ℕ) (o t s k u : ℕ) (z : Bool) → o ≡ v 0 → s ≡ v t → z ≡ fresh o s → z ≡ true
+    → k ≡ firstBranch (λ j. fresh o (v j)) → u ≡ v k
+    → not (eqb s u) ≡ (fresh (v 0) (v t) && not (eqb (v t) (v (firstBranch (λ j. fresh (v 0) (v j))))))
+first-differs v o t s k u z eo es ez y ek eu =
+    new-differs (v 0) (v t) (v (firstBranch (λ j. fresh (v 0) (v j)))) o s z eo es ez u y
+    (eu ∙ ap v ek ∙ ap (λ (x : ℕ). v (firstBranch (λ j. fresh x (v j)))) eo)
+
+-- the lesser of two places: r if it passes the one test, n if it passes the other; r was asked for as `up`
+pub lesser-place : (test : ℕ → Bool) (other x y : Bool) (up n r a b m : ℕ) → r ≡ up → x ≡ test r → y ≡ other → a ≡ place x r
+    → b ≡ place y n → m ≡ min a b → m ≡ min (place (test up) up) (place other n)
+lesser-place test other x y up n r a b m er ex ey ea eb em =
+    em
+    ∙ (λ i. min (ea i) (eb i))
+    ∙ (λ i. min (place (ex i) r) (place (ey i) n))
+    ∙ ap (λ (u : ℕ). min (place (test u) u) (place other n)) er
 
 module _ (q : ℕ → Asked) where
   pub claims-there : (t n r : ℕ) (h z : Bool) → h ≡ q t .has n → h ≡ true → r ≡ q t .up n → z ≡ freshBeside q t r n → z ≡ claims q t n
@@ -104,14 +115,6 @@ module _ (q : ℕ → Asked) where
   parents-differ t n k a b z e y f ea eb =
       and-then (claims q t n) (not (eqb (q t .up n) (q (parentSource q n) .up n))) z (not (eqb a b)) e y
       (λ i. not (eqb (ea i) ((eb ∙ ap (λ (j : ℕ). q j .up n) f) i)))
-
-  pub neighbour-is : (t n r a b m : ℕ) (x y : Bool) → r ≡ q t .up n → x ≡ torn q t r n n → y ≡ torn q t n START END → a ≡ place x r
-      → b ≡ place y n → m ≡ min a b → m ≡ neighbourPlace q t n
-  neighbour-is t n r a b m x y er ex ey ea eb em =
-      em
-      ∙ (λ i. min (ea i) (eb i))
-      ∙ (λ i. min (place (ex i) r) (place (ey i) n))
-      ∙ ap (λ (u : ℕ). min (place (torn q t u n n) u) (place (torn q t n START END) n)) er
 
   -- ---- the loop over the branches for the kept follower
 

@@ -120,7 +120,7 @@ module _ (texts lines facts : List (List ℕ)) (old : List Row) (branches : List
   -- ---- both
 
   abbrev parents : List ℕ
-  parents = lostParents q O Bs views merged (factsOf t .positions) (treePositions TOP START f) (shown ls fs t holds ok) into back
+  parents = lostParents O Bs (treePositions TOP START f)
 
   Lost : ℕ → Type 0
   Lost n = (k : ℕ) × IsBranch k × ((i : ℕ) × (i < suc (getD counts k 0)) × (lostOn texts lines facts ls fs k i ≤ n))

@@ -25,12 +25,16 @@ use Rattle.edits.proofs.Best.{PlaceIn, place-in, place-le, min-in}
 use Rattle.edits.proofs.Leasts.{parent-low}
 use Rattle.lost.specs.Lost.{lostAfter, lostPosition}
 
+-- the parents of the edits that a tree with these facts lacks
+abbrev pub lostParents : Facts → List Facts → List PositionFact → List ℕ
+lostParents old branches tree = map parentOf (lacking samePosition (positionEdits old branches) tree)
+
 module _ (q : ℕ → Asked) (old : Facts) (branches : List Facts) (w : Views q old branches) (m : Asked) (facts tree : List PositionFact)
     (vm : View m facts) (into : (a : PositionFact) → a ∈ tree → a ∈ facts) (back : (a : PositionFact) → a ∈ facts → a ∈ tree) where
-  abbrev pub lostParents : List ℕ
-  lostParents = map parentOf (lacking samePosition (positionEdits old branches) tree)
+  abbrev parents : List ℕ
+  parents = lostParents old branches tree
 
-  pub after-lost : (k r p : ℕ) → IsBranch k → T (lostAfter q m k r p) → r ∈ lostParents
+  after-lost : (k r p : ℕ) → IsBranch k → T (lostAfter q m k r p) → r ∈ parents
   after-lost k r p b t =
       let c = and-yes (freshAfter q k r p) (not (eqb (q k .after r p) (m .after r p))) t in
       let a = position r p (q k .after r p) in
@@ -39,7 +43,7 @@ module _ (q : ℕ → Asked) (old : Facts) (branches : List Facts) (w : Views q 
       (not-T (any (samePosition a) tree) (λ y. eqb-no (c .1) (sym (vm .to-after a (into a (has-out position-tells tree y)))))))
 
   -- where it shows: at a fact of some branch
-  pub lost-shows : (r : ℕ) → r ∈ lostParents
+  lost-shows : (r : ℕ) → r ∈ parents
       → (k : ℕ) × IsBranch k × ((a : PositionFact) × (a ∈ factsAt old branches k) × (a .parent ≡ r) × T
       (lostAfter q m k (a .parent) (a .before)))
   lost-shows r i =
@@ -61,14 +65,14 @@ module _ (q : ℕ → Asked) (old : Facts) (branches : List Facts) (w : Views q 
         ),
       )
 
-  pub position-in : (k n : ℕ) → IsBranch k → PlaceIn lostParents (lostPosition q m k n)
+  pub position-in : (k n : ℕ) → IsBranch k → PlaceIn parents (lostPosition q m k n)
   position-in k n b =
-      min-in lostParents (place (lostAfter q m k (q k .up n) n) (q k .up n)) (place (lostAfter q m k n START) n)
-      (place-in lostParents (lostAfter q m k (q k .up n) n) (q k .up n) (after-lost k (q k .up n) n b))
-      (place-in lostParents (lostAfter q m k n START) n (after-lost k n START b))
+      min-in parents (place (lostAfter q m k (q k .up n) n) (q k .up n)) (place (lostAfter q m k n START) n)
+      (place-in parents (lostAfter q m k (q k .up n) n) (q k .up n) (after-lost k (q k .up n) n b))
+      (place-in parents (lostAfter q m k n START) n (after-lost k n START b))
 
   -- at a record's own follower, or at the start of its list
-  pub position-met : (r : ℕ) → r ∈ lostParents → (k : ℕ) × IsBranch k × ((n : ℕ) × T (lists (q k) n) × (lostPosition q m k n ≤ r))
+  pub position-met : (r : ℕ) → r ∈ parents → (k : ℕ) × IsBranch k × ((n : ℕ) × T (lists (q k) n) × (lostPosition q m k n ≤ r))
   position-met r i = let x = lost-shows r i in (x .0, x .1, at (x .0) (x .1) (x .2 .0) (x .2 .1) (x .2 .2) (x .2 .3))
     where
       at : (k : ℕ) → IsBranch k → (a : PositionFact) → a ∈ factsAt old branches k → a .parent ≡ r → T
@@ -85,7 +89,7 @@ module _ (q : ℕ → Asked) (old : Facts) (branches : List Facts) (w : Views q 
                 (a .parent, w .view k (b .1) .listed a j, omega (arith, le, e))
           ]
 
-  pub parents-low : (r : ℕ) → r ∈ lostParents → r < NONE
+  pub parents-low : (r : ℕ) → r ∈ parents → r < NONE
   parents-low r i =
       let x = lost-shows r i in
       let v = w .view (x .0) (x .1 .1) in

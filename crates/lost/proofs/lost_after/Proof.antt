@@ -1,8 +1,5 @@
 -- The proof of `lost_after`: the edit is compared with the merged table. Assumes nothing.
-use denote.Ref.{now}
-use Rattle.facts.specs.Asked.{asked}
-use Rattle.edits.specs.Memory.{ask}
-use Rattle.lost.proofs.Ways.{after-else, after-old}
+use Rattle.edits.proofs.Ways.{new-differs, not-new}
 use borrow.Author.Needs.{needs}
 use Rattle.lost.proofs.lost_after.Statement.{statement}
 use Rattle.lost.proofs.lost_after.Tie as tie
@@ -31,17 +28,13 @@ follower-requires c κs = search needs
 -- src/lib.rt:44:9
 returns : tie.Need-returns
 returns c =
-    let s = c .before .before .before .before .before .args in
-    after-else (ask (now (s .lines)) (now (s .facts))) (asked (now (s .ls)) (now (s .fs))) _ (s .r) (s .p) _ _ _
-    (c .before .before .before .before .follower-in .ensures) (c .before .before .before .follower-in2 .ensures)
+    new-differs _ _ _ _ _ _ (c .before .before .before .before .follower-in .ensures) (c .before .before .before .follower-in2 .ensures)
     (c .before .before .fresh .ensures) _ (c .before .if1 .taken) (c .follower .ensures)
 
 -- src/lib.rt:28:1
 returns-2 : tie.Need-returns-2
 returns-2 c =
-    let s = c .before .before .before .before .args in
-    after-old (ask (now (s .lines)) (now (s .facts))) (asked (now (s .ls)) (now (s .fs))) _ (s .r) (s .p) _ _ _
-    (c .before .before .before .follower-in .ensures) (c .before .before .follower-in2 .ensures)
+    not-new _ _ _ _ _ _ (c .before .before .before .follower-in .ensures) (c .before .before .follower-in2 .ensures)
     (c .before .fresh .ensures) (c .if1 .left)
 
 pub lost-after-spec : {M : Type 1} → statement M

@@ -2,7 +2,8 @@
 use denote.Ref.{now}
 use Rattle.facts.specs.Asked.{asked}
 use Rattle.edits.specs.Memory.{ask}
-use Rattle.lost.proofs.Ways.{position-is}
+use Rattle.edits.proofs.Ways.{lesser-place}
+use Rattle.lost.specs.Lost.{lostAfter}
 use borrow.Author.Needs.{needs}
 use Rattle.lost.proofs.lost_position.Statement.{statement}
 use Rattle.lost.proofs.lost_position.Tie as tie
@@ -41,7 +42,8 @@ smaller-requires c κs = search needs
 returns : tie.Need-returns
 returns c =
     let s = c .before .before .before .before .before .before .args in
-    position-is (ask (now (s .lines)) (now (s .facts))) (asked (now (s .ls)) (now (s .fs))) _ _ _ _ _ _ _ _
+    let q = ask (now (s .lines)) (now (s .facts)) in
+    lesser-place (λ u. lostAfter q (asked (now (s .ls)) (now (s .fs))) (s .t) u (s .n)) _ _ _ _ _ _ _ _ _
     (c .before .before .before .before .before .parent-in .ensures) (c .before .before .before .before .lost-after .ensures)
     (c .before .before .before .lost-after2 .ensures) (c .before .before .place .ensures) (c .before .place2 .ensures)
     (c .smaller .ensures)

@@ -1,7 +1,8 @@
 -- The proof of `neighbour_place`: the lesser of two places. Assumes nothing.
 use denote.Ref.{now}
 use Rattle.edits.specs.Memory.{ask}
-use Rattle.edits.proofs.Ways.{neighbour-is}
+use Rattle.edits.specs.Positions.{torn}
+use Rattle.edits.proofs.Ways.{lesser-place}
 use borrow.Author.Needs.{needs}
 use Rattle.edits.proofs.clash.neighbour_place.Statement.{statement}
 use Rattle.edits.proofs.clash.neighbour_place.Tie as tie
@@ -40,7 +41,8 @@ smaller-requires c κs = search needs
 returns : tie.Need-returns
 returns c =
     let s = c .before .before .before .before .before .before .args in
-    neighbour-is (ask (now (s .lines)) (now (s .facts))) _ _ _ _ _ _ _ _ (c .before .before .before .before .before .parent-in .ensures)
+    let q = ask (now (s .lines)) (now (s .facts)) in
+    lesser-place (λ u. torn q (s .t) u (s .n) (s .n)) _ _ _ _ _ _ _ _ _ (c .before .before .before .before .before .parent-in .ensures)
     (c .before .before .before .before .torn .ensures) (c .before .before .before .torn2 .ensures) (c .before .before .place .ensures)
     (c .before .place2 .ensures) (c .smaller .ensures)
 

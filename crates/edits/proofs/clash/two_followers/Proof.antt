@@ -1,7 +1,7 @@
 -- The proof of `two_followers`: the edit is compared with the first branch's. Assumes nothing.
 use denote.Ref.{now}
 use Rattle.edits.specs.Memory.{ask}
-use Rattle.edits.proofs.Ways.{two-differ, two-not}
+use Rattle.edits.proofs.Ways.{first-differs, not-new}
 use borrow.Author.Needs.{needs}
 use Rattle.edits.proofs.clash.two_followers.Statement.{statement}
 use Rattle.edits.proofs.clash.two_followers.Tie as tie
@@ -36,17 +36,16 @@ returns : tie.Need-returns
 returns c =
     let asked = c .before .before .before in
     let s = asked .before .before .before .args in
-    two-differ (λ k. ask (now (s .lines)) (now (s .facts)) k .after (s .r) (s .p)) _ _ _ _ _ _ (asked .before .before .follower-in .ensures)
-    (asked .before .follower-in2 .ensures) (asked .fresh .ensures) (c .before .before .if1 .taken) (c .before .after-source .ensures .0)
-    (c .follower-in3 .ensures)
+    first-differs (λ k. ask (now (s .lines)) (now (s .facts)) k .after (s .r) (s .p)) _ _ _ _ _ _
+    (asked .before .before .follower-in .ensures) (asked .before .follower-in2 .ensures) (asked .fresh .ensures)
+    (c .before .before .if1 .taken) (c .before .after-source .ensures .0) (c .follower-in3 .ensures)
 
 -- src/lib.rt:241:1
 returns-2 : tie.Need-returns-2
 returns-2 c =
     let asked = c .before in
-    let s = asked .before .before .before .args in
-    two-not (λ k. ask (now (s .lines)) (now (s .facts)) k .after (s .r) (s .p)) _ _ _ _ (asked .before .before .follower-in .ensures)
-    (asked .before .follower-in2 .ensures) (asked .fresh .ensures) (c .if1 .left)
+    not-new _ _ _ _ _ _ (asked .before .before .follower-in .ensures) (asked .before .follower-in2 .ensures)
+    (asked .fresh .ensures) (c .if1 .left)
 
 pub two-followers-spec : {M : Type 1} → statement M
 two-followers-spec =

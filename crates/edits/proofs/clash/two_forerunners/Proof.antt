@@ -1,7 +1,7 @@
 -- The proof of `two_forerunners`: the edit is compared with the first branch's. Assumes nothing.
 use denote.Ref.{now}
 use Rattle.edits.specs.Memory.{ask}
-use Rattle.edits.proofs.Ways.{two-differ, two-not}
+use Rattle.edits.proofs.Ways.{first-differs, not-new}
 use borrow.Author.Needs.{needs}
 use Rattle.edits.proofs.clash.two_forerunners.Statement.{statement}
 use Rattle.edits.proofs.clash.two_forerunners.Tie as tie
@@ -36,18 +36,16 @@ returns : tie.Need-returns
 returns c =
     let asked = c .before .before .before in
     let s = asked .before .before .before .args in
-    two-differ (λ k. ask (now (s .lines)) (now (s .facts)) k .before (s .r) (s .s)) _ _ _ _ _ _
-    (asked .before .before .forerunner-in .ensures)
-    (asked .before .forerunner-in2 .ensures) (asked .fresh .ensures) (c .before .before .if1 .taken)
-    (c .before .before-source .ensures .0) (c .forerunner-in3 .ensures)
+    first-differs (λ k. ask (now (s .lines)) (now (s .facts)) k .before (s .r) (s .s)) _ _ _ _ _ _
+    (asked .before .before .forerunner-in .ensures) (asked .before .forerunner-in2 .ensures) (asked .fresh .ensures)
+    (c .before .before .if1 .taken) (c .before .before-source .ensures .0) (c .forerunner-in3 .ensures)
 
 -- src/lib.rt:261:1
 returns-2 : tie.Need-returns-2
 returns-2 c =
     let asked = c .before in
-    let s = asked .before .before .before .args in
-    two-not (λ k. ask (now (s .lines)) (now (s .facts)) k .before (s .r) (s .s)) _ _ _ _ (asked .before .before .forerunner-in .ensures)
-    (asked .before .forerunner-in2 .ensures) (asked .fresh .ensures) (c .if1 .left)
+    not-new _ _ _ _ _ _ (asked .before .before .forerunner-in .ensures) (asked .before .forerunner-in2 .ensures)
+    (asked .fresh .ensures) (c .if1 .left)
 
 pub two-forerunners-spec : {M : Type 1} → statement M
 two-forerunners-spec =
