@@ -51,35 +51,34 @@ module _ (kind : Clashes → ℕ) (none : kind (record { content = NONE; parent 
 
 -- ---- 21
 
-module _ (q : ℕ → Asked) (w : ℕ → Told) (old : Facts) (branches : List Facts) (v : ContentViews w old branches)
-    (same : (k : ℕ) → q k .has ≡ w k .has) (number : ℕ → ℕ → ℕ) (counts : ℕ → ℕ) (met : Met q number counts) where
+module _ (w : ℕ → Told) (old : Facts) (branches : List Facts) (v : ContentViews w old branches) where
   has-of : (k n : ℕ) → T (twoContents w k n) → T (w k .has n)
   has-of k n t = and-yes (w k .has n) _ (and-yes (freshContent w k n) _ t .0) .0
 
-  pub contents-low : (n : ℕ) → n ∈ contentClashes old branches → n < NONE
+  contents-low : (n : ℕ) → n ∈ contentClashes old branches → n < NONE
   contents-low n m =
       let x = clash-out w old branches v n m in
       record-high n (v .view (x .0) (x .1 .1) .record-has n (has-of (x .0) n (x .2)))
 
-  pub least-contents : bestOf (λ k i. contentPlace w k (number k i)) counts ≡ leastOr (contentClashes old branches)
-  least-contents =
-      best-of-is (contentClashes old branches) (λ k i. contentPlace w k (number k i)) counts contents-low
-      (λ k i b. place-in _ (twoContents w k (number k i)) (number k i) (clash-in w old branches v k (number k i) b)) found
-    where
-      found : (n : ℕ) → n ∈ contentClashes old branches
-          → (k : ℕ) × IsBranch k × ((i : ℕ) × (i < suc (counts k)) × (contentPlace w k (number k i) ≤ n))
-      found n m =
-          let x = clash-out w old branches v n m in
-          let k = x .0 in
-          let h : T (q k .has n) = subst (λ (has : ℕ → Bool). T (has n)) (sym (same k)) (has-of k n (x .2)) in
-          let i = met k (x .1 .1) n (or-right (eqb n TOP) (q k .has n) h) in
-          (k, x .1, (i .0, i .1, subst (λ (z : ℕ). contentPlace w k z ≤ n) (sym (i .2)) (place-le (twoContents w k n) n (x .2))))
+  module _ (q : ℕ → Asked) (same : (k : ℕ) → q k .has ≡ w k .has) (number : ℕ → ℕ → ℕ) (counts : ℕ → ℕ) (met : Met q number counts) where
+    least-contents : bestOf (λ k i. contentPlace w k (number k i)) counts ≡ leastOr (contentClashes old branches)
+    least-contents =
+        best-of-is (contentClashes old branches) (λ k i. contentPlace w k (number k i)) counts contents-low
+        (λ k i b. place-in _ (twoContents w k (number k i)) (number k i) (clash-in w old branches v k (number k i) b)) found
+      where
+        found : (n : ℕ) → n ∈ contentClashes old branches
+            → (k : ℕ) × IsBranch k × ((i : ℕ) × (i < suc (counts k)) × (contentPlace w k (number k i) ≤ n))
+        found n m =
+            let x = clash-out w old branches v n m in
+            let k = x .0 in
+            let h : T (q k .has n) = subst (λ (has : ℕ → Bool). T (has n)) (sym (same k)) (has-of k n (x .2)) in
+            let i = met k (x .1 .1) n (or-right (eqb n TOP) (q k .has n) h) in
+            (k, x .1, (i .0, i .1, subst (λ (z : ℕ). contentPlace w k z ≤ n) (sym (i .2)) (place-le (twoContents w k n) n (x .2))))
 
 -- ---- in memory
 
 module _ (texts lines facts : List (List ℕ)) (old : List Row) (branches : List (List Row))
-    (m : SideBySide texts lines facts old branches) (counts : List ℕ)
-    (counted : (k : ℕ) → k < TABLES → getD counts k 0 ≡ length (getD (old ∷ branches) k [])) where
+    (m : SideBySide texts lines facts old branches) where
   abbrev O : Facts
   O = factsOf old
 
@@ -92,41 +91,45 @@ module _ (texts lines facts : List (List ℕ)) (old : List Row) (branches : List
   abbrev w : ℕ → Told
   w = tell texts lines facts
 
-  abbrev count : ℕ → ℕ
-  count k = getD counts k 0
+  told : ContentViews (tell texts lines facts) (factsOf old) (map factsOf branches)
+  told = tell-views texts lines facts old branches m
 
   views : Views (ask lines facts) (factsOf old) (map factsOf branches)
   views = ask-views texts lines facts old branches m
 
-  met : Met (ask lines facts) (numberOn facts) (λ k. getD counts k 0)
-  met = ask-met texts lines facts old branches m counts counted
-
-  pub content-least : allClashes texts lines facts counts .content ≡ leastOr (contentClashes (factsOf old) (map factsOf branches))
-  content-least =
-      kind-of (λ c. c .content) refl (λ a b. refl) (λ k i. clashesAt q w k (numberOn facts k i))
-      (λ k i. contentPlace w k (numberOn facts k i))
-      (λ k i. refl) count
-      ∙ least-contents q w O Bs (tell-views texts lines facts old branches m) (λ k. refl) (numberOn facts) count met
-
-  pub parent-least : allClashes texts lines facts counts .parent ≡ leastOr (parentClashes (factsOf old) (map factsOf branches))
-  parent-least =
-      kind-of (λ c. c .parent) refl (λ a b. refl) (λ k i. clashesAt q w k (numberOn facts k i))
-      (λ k i. parentPlace q k (numberOn facts k i))
-      (λ k i. refl) count
-      ∙ least-parents q O Bs views (numberOn facts) count met
-
-  pub neighbour-least : allClashes texts lines facts counts .neighbour ≡ leastOr (neighbourClashes (factsOf old) (map factsOf branches))
-  neighbour-least =
-      kind-of (λ c. c .neighbour) refl (λ a b. refl) (λ k i. clashesAt q w k (numberOn facts k i))
-      (λ k i. neighbourPlace q k (numberOn facts k i))
-      (λ k i. refl) count
-      ∙ least-neighbours q O Bs views (numberOn facts) count met
-
   pub content-low : (n : ℕ) → n ∈ contentClashes (factsOf old) (map factsOf branches) → n < NONE
-  content-low = contents-low q w O Bs (tell-views texts lines facts old branches m) (λ k. refl) (numberOn facts) count met
+  content-low = contents-low w O Bs told
 
   pub parent-low : (n : ℕ) → n ∈ parentClashes (factsOf old) (map factsOf branches) → n < NONE
-  parent-low = parents-low q O Bs views (numberOn facts) count met
+  parent-low = parents-low q O Bs views
 
   pub neighbour-low : (n : ℕ) → n ∈ neighbourClashes (factsOf old) (map factsOf branches) → n < NONE
-  neighbour-low = neighbours-low q O Bs views (numberOn facts) count met
+  neighbour-low = neighbours-low q O Bs views
+
+  module _ (counts : List ℕ) (counted : (k : ℕ) → k < TABLES → getD counts k 0 ≡ length (getD (old ∷ branches) k [])) where
+    abbrev count : ℕ → ℕ
+    count k = getD counts k 0
+
+    met : Met (ask lines facts) (numberOn facts) (λ k. getD counts k 0)
+    met = ask-met texts lines facts old branches m counts counted
+
+    pub content-least : allClashes texts lines facts counts .content ≡ leastOr (contentClashes (factsOf old) (map factsOf branches))
+    content-least =
+        kind-of (λ c. c .content) refl (λ a b. refl) (λ k i. clashesAt q w k (numberOn facts k i))
+        (λ k i. contentPlace w k (numberOn facts k i))
+        (λ k i. refl) count
+        ∙ least-contents w O Bs told q (λ k. refl) (numberOn facts) count met
+
+    pub parent-least : allClashes texts lines facts counts .parent ≡ leastOr (parentClashes (factsOf old) (map factsOf branches))
+    parent-least =
+        kind-of (λ c. c .parent) refl (λ a b. refl) (λ k i. clashesAt q w k (numberOn facts k i))
+        (λ k i. parentPlace q k (numberOn facts k i))
+        (λ k i. refl) count
+        ∙ least-parents q O Bs views (numberOn facts) count met
+
+    pub neighbour-least : allClashes texts lines facts counts .neighbour ≡ leastOr (neighbourClashes (factsOf old) (map factsOf branches))
+    neighbour-least =
+        kind-of (λ c. c .neighbour) refl (λ a b. refl) (λ k i. clashesAt q w k (numberOn facts k i))
+        (λ k i. neighbourPlace q k (numberOn facts k i))
+        (λ k i. refl) count
+        ∙ least-neighbours q O Bs views (numberOn facts) count met

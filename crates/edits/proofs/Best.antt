@@ -60,10 +60,9 @@ no-place [] h e = refl
 no-place (x ∷ xs) h e = absurd (omega (arith, h (least x xs) (least-in x xs)))
 
 -- the refusal by the least place
-pub refuse-least : (code : ℕ) (P : List ℕ) (r : Result) → ((x : ℕ) → x ∈ P → x < NONE) → (leastOr P ≡ NONE → ⊥)
-    → refuse code P r ≡ refused code (leastOr P)
-refuse-least code [] r low h = absurd (h refl)
-refuse-least code (x ∷ xs) r low h = refl
+pub refuse-least : (code : ℕ) (P : List ℕ) (r : Result) → (leastOr P ≡ NONE → ⊥) → refuse code P r ≡ refused code (leastOr P)
+refuse-least code [] r h = absurd (h refl)
+refuse-least code (x ∷ xs) r h = refl
 
 pub refuse-none : (code : ℕ) (P : List ℕ) (r : Result) → P ≡ [] → refuse code P r ≡ r
 refuse-none code P r e = ap (λ (l : List ℕ). refuse code l r) e

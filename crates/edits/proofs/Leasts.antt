@@ -34,8 +34,9 @@ parent-low {q} v n t =
       | inr h ↦ record-high n (v .placed n h .0)
     ]
 
-module _ (q : ℕ → Asked) (old : Facts) (branches : List Facts) (w : Views q old branches) (number : ℕ → ℕ → ℕ) (counts : ℕ → ℕ)
-    (met : Met q number counts) where
+-- ---- such places are less than NONE
+
+module _ (q : ℕ → Asked) (old : Facts) (branches : List Facts) (w : Views q old branches) where
   has-of : (k n : ℕ) → T (twoParents q k n) → T (q k .has n)
   has-of k n t = and-yes (q k .has n) _ (and-yes (claims q k n) _ t .0) .0
 
@@ -44,9 +45,19 @@ module _ (q : ℕ → Asked) (old : Facts) (branches : List Facts) (w : Views q 
       let x = parent-out q old branches w n m in
       record-high n (w .view (x .0) (x .1 .1) .placed n (has-of (x .0) n (x .2)) .0)
 
+  pub neighbours-low : (r : ℕ) → r ∈ neighbourClashes old branches → r < NONE
+  neighbours-low r m =
+      let x = neighbour-out q old branches w r m in
+      let v = w .view (x .0) (x .1 .1) in
+      subst (λ (n : ℕ). n < NONE) (x .2 .2) (parent-low v (x .2 .0 .parent) (v .listed (x .2 .0) (x .2 .1)))
+
+-- ---- the least of them
+
+module _ (q : ℕ → Asked) (old : Facts) (branches : List Facts) (w : Views q old branches) (number : ℕ → ℕ → ℕ) (counts : ℕ → ℕ)
+    (met : Met q number counts) where
   pub least-parents : bestOf (λ k i. parentPlace q k (number k i)) counts ≡ leastOr (parentClashes old branches)
   least-parents =
-      best-of-is (parentClashes old branches) (λ k i. parentPlace q k (number k i)) counts parents-low
+      best-of-is (parentClashes old branches) (λ k i. parentPlace q k (number k i)) counts (parents-low q old branches w)
       (λ k i b. place-in _ (twoParents q k (number k i)) (number k i) (parent-in q old branches w k (number k i) b)) found
     where
       found : (n : ℕ) → n ∈ parentClashes old branches
@@ -54,7 +65,7 @@ module _ (q : ℕ → Asked) (old : Facts) (branches : List Facts) (w : Views q 
       found n m =
           let x = parent-out q old branches w n m in
           let k = x .0 in
-          let i = met k (x .1 .1) n (or-right (eqb n TOP) (q k .has n) (has-of k n (x .2))) in
+          let i = met k (x .1 .1) n (or-right (eqb n TOP) (q k .has n) (has-of q old branches w k n (x .2))) in
           (k, x .1, (i .0, i .1, subst (λ (z : ℕ). parentPlace q k z ≤ n) (sym (i .2)) (place-le (twoParents q k n) n (x .2))))
 
   -- where a torn list shows: at a record's own neighbours, or at the ends of its list
@@ -86,15 +97,9 @@ module _ (q : ℕ → Asked) (old : Facts) (branches : List Facts) (w : Views q 
             (or-right (twoFollowers q k (a .parent) START) _ (subst (λ (s : ℕ). T (twoForerunners q k (a .parent) s)) e t))
       ]
 
-  pub neighbours-low : (r : ℕ) → r ∈ neighbourClashes old branches → r < NONE
-  neighbours-low r m =
-      let x = neighbour-out q old branches w r m in
-      let v = w .view (x .0) (x .1 .1) in
-      subst (λ (n : ℕ). n < NONE) (x .2 .2) (parent-low v (x .2 .0 .parent) (v .listed (x .2 .0) (x .2 .1)))
-
   pub least-neighbours : bestOf (λ k i. neighbourPlace q k (number k i)) counts ≡ leastOr (neighbourClashes old branches)
   least-neighbours =
-      best-of-is (neighbourClashes old branches) (λ k i. neighbourPlace q k (number k i)) counts neighbours-low
+      best-of-is (neighbourClashes old branches) (λ k i. neighbourPlace q k (number k i)) counts (neighbours-low q old branches w)
       (λ k i b. here k (number k i) b) found
     where
       tears : (k r p s : ℕ) → IsBranch k → T (torn q k r p s) → r ∈ neighbourClashes old branches

@@ -2,10 +2,9 @@
 -- places of 21 to 23, n is a place. Assumes nothing.
 use mathlib.Core.Path.{_≡_, sym, ap, _∙_}
 use mathlib.Core.List.{List, []}
-use Prim.Native.Nat.{ℕ, _<_}
+use Prim.Native.Nat.{ℕ}
 use borrow.Author.Needs.{needs}
 use borrow.Author.Tests.{eq-eqb, ne-eqb}
-use Rattle.rules.specs.Lists.{_∈_}
 use Rattle.rules.specs.Codes.{contentClash, parentClash, neighbourClash, brokenList, lostEdit}
 use Rattle.rules.specs.Facts.{Facts}
 use Rattle.rules.specs.Merge.{refused, merged, merge, mergedTree, contentClashes, parentClashes, neighbourClashes}
@@ -50,40 +49,40 @@ pub ruleset firsts = (first-content, first-parent, first-neighbour, first-none, 
 -- ---- the chain of refusals
 
 module _ (old : Facts) (branches : List Facts) where
-  pub merge-21 : (low : (n : ℕ) → n ∈ contentClashes old branches → n < NONE) → (leastOr (contentClashes old branches) ≡ NONE → ⊥)
+  pub merge-21 : (leastOr (contentClashes old branches) ≡ NONE → ⊥)
       → merge old branches ≡ refused contentClash (leastOr (contentClashes old branches))
   unfolding merge
-  merge-21 low h = refuse-least contentClash (contentClashes old branches) _ low h
+  merge-21 h = refuse-least contentClash (contentClashes old branches) _ h
 
   module _ (no-content : contentClashes old branches ≡ []) where
-    pub merge-22 : (low : (n : ℕ) → n ∈ parentClashes old branches → n < NONE) → (leastOr (parentClashes old branches) ≡ NONE → ⊥)
+    pub merge-22 : (leastOr (parentClashes old branches) ≡ NONE → ⊥)
         → merge old branches ≡ refused parentClash (leastOr (parentClashes old branches))
     unfolding merge
-    merge-22 low h = refuse-none contentClash _ _ no-content ∙ refuse-least parentClash (parentClashes old branches) _ low h
+    merge-22 h = refuse-none contentClash _ _ no-content ∙ refuse-least parentClash (parentClashes old branches) _ h
 
     module _ (no-parent : parentClashes old branches ≡ []) where
-      pub merge-23 : (low : (n : ℕ) → n ∈ neighbourClashes old branches → n < NONE) → (leastOr (neighbourClashes old branches) ≡ NONE → ⊥)
+      pub merge-23 : (leastOr (neighbourClashes old branches) ≡ NONE → ⊥)
           → merge old branches ≡ refused neighbourClash (leastOr (neighbourClashes old branches))
       unfolding merge
-      merge-23 low h =
+      merge-23 h =
           refuse-none contentClash _ _ no-content ∙ refuse-none parentClash _ _ no-parent
-          ∙ refuse-least neighbourClash (neighbourClashes old branches) _ low h
+          ∙ refuse-least neighbourClash (neighbourClashes old branches) _ h
 
       module _ (no-neighbour : neighbourClashes old branches ≡ []) where
-        pub merge-24 : (low : (n : ℕ) → n ∈ brokenLists old branches → n < NONE) → (leastOr (brokenLists old branches) ≡ NONE → ⊥)
+        pub merge-24 : (leastOr (brokenLists old branches) ≡ NONE → ⊥)
             → merge old branches ≡ refused brokenList (leastOr (brokenLists old branches))
         unfolding merge
-        merge-24 low h =
+        merge-24 h =
             refuse-none contentClash _ _ no-content ∙ refuse-none parentClash _ _ no-parent ∙ refuse-none neighbourClash _ _ no-neighbour
-            ∙ refuse-least brokenList (brokenLists old branches) _ low h
+            ∙ refuse-least brokenList (brokenLists old branches) _ h
 
         module _ (no-broken : brokenLists old branches ≡ []) where
-          pub merge-25 : (low : (n : ℕ) → n ∈ lostEdits old branches → n < NONE) → (leastOr (lostEdits old branches) ≡ NONE → ⊥)
+          pub merge-25 : (leastOr (lostEdits old branches) ≡ NONE → ⊥)
               → merge old branches ≡ refused lostEdit (leastOr (lostEdits old branches))
           unfolding merge
-          merge-25 low h =
+          merge-25 h =
               refuse-none contentClash _ _ no-content ∙ refuse-none parentClash _ _ no-parent ∙ refuse-none neighbourClash _ _ no-neighbour
-              ∙ refuse-none brokenList _ _ no-broken ∙ refuse-least lostEdit (lostEdits old branches) _ low h
+              ∙ refuse-none brokenList _ _ no-broken ∙ refuse-least lostEdit (lostEdits old branches) _ h
 
           pub merge-done : lostEdits old branches ≡ [] → merge old branches ≡ merged (mergedTree old branches)
           unfolding merge

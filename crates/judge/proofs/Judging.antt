@@ -1,7 +1,6 @@
 -- What is judged, way by way through the code, is what the rules say. texts, lines and facts are those of the tables that are merged, old
--- and
--- branches their rows, `counts` how many they have; ls and fs are the arrays of the merged table; c are the least places of clashes; x is a
--- row, n a record. Assumes nothing.
+-- and branches their rows, `counts` how many they have; ls and fs are the arrays of the merged table; c are the least places of clashes;
+-- x is a row, n a record. Assumes nothing.
 use mathlib.Core.Path.{_≡_, refl, sym, ap, _∙_, subst}
 use mathlib.Core.List.{List, [], _∷_, map, List·Memᴰ·head as here, List·Memᴰ·tail as there}
 use Prim.Native.Nat.{ℕ, suc, _<_, _≤_}
@@ -129,15 +128,15 @@ module _ (texts lines facts : List (List ℕ)) (counts : List ℕ) (long : lengt
 
     no-content : c .content ≡ NONE → contentClashes O Bs ≡ []
     no-content e =
-        no-place (contentClashes O Bs) (content-low texts lines facts old branches (b .side) counts (b .counted)) (sym content-is ∙ e)
+        no-place (contentClashes O Bs) (content-low texts lines facts old branches (b .side)) (sym content-is ∙ e)
 
     no-parent : c .parent ≡ NONE → parentClashes O Bs ≡ []
     no-parent e =
-        no-place (parentClashes O Bs) (parent-low texts lines facts old branches (b .side) counts (b .counted)) (sym parent-is ∙ e)
+        no-place (parentClashes O Bs) (parent-low texts lines facts old branches (b .side)) (sym parent-is ∙ e)
 
     no-neighbour : c .neighbour ≡ NONE → neighbourClashes O Bs ≡ []
     no-neighbour e =
-        no-place (neighbourClashes O Bs) (neighbour-low texts lines facts old branches (b .side) counts (b .counted))
+        no-place (neighbourClashes O Bs) (neighbour-low texts lines facts old branches (b .side))
         (sym neighbour-is ∙ e)
 
     -- what was told, if it is a refusal of the rules
@@ -152,15 +151,13 @@ module _ (texts lines facts : List (List ℕ)) (counts : List ℕ) (long : lengt
         go : Told c z → merge (factsOf old) (map factsOf branches) ≡ refused (z .code) (z .place)
         go (by-content x d) =
             as-told z contentClash _ (c .content) d content-is
-            (merge-21 O Bs (content-low texts lines facts old branches (b .side) counts (b .counted)) (λ y. x (content-is ∙ y)))
+            (merge-21 O Bs (λ y. x (content-is ∙ y)))
         go (by-parent x y d) =
             as-told z parentClash _ (c .parent) d parent-is
-            (merge-22 O Bs (no-content x) (parent-low texts lines facts old branches (b .side) counts (b .counted))
-            (λ w. y (parent-is ∙ w)))
+            (merge-22 O Bs (no-content x) (λ w. y (parent-is ∙ w)))
         go (by-neighbour x y w d) =
             as-told z neighbourClash _ (c .neighbour) d neighbour-is
-            (merge-23 O Bs (no-content x) (no-parent y) (neighbour-low texts lines facts old branches (b .side) counts (b .counted))
-            (λ v. w (neighbour-is ∙ v)))
+            (merge-23 O Bs (no-content x) (no-parent y) (λ v. w (neighbour-is ∙ v)))
         go (by-none w d) = absurd (h (ap (λ (j : Judged). j .code) d))
 
     -- ---- after the walk
@@ -197,7 +194,7 @@ module _ (texts lines facts : List (List ℕ)) (counts : List ℕ) (long : lengt
       broken-refused : (z : Judged) → (broken ≡ NONE → ⊥) → z ≡ told brokenList broken 0 → merge O Bs ≡ refused (z .code) (z .place)
       broken-refused z h e =
           as-told z brokenList _ broken e is-broken
-          (merge-24 O Bs (no-content (w .content)) (no-parent (w .parent)) (no-neighbour (w .neighbour)) low-broken
+          (merge-24 O Bs (no-content (w .content)) (no-parent (w .parent)) (no-neighbour (w .neighbour))
           (λ y. h (is-broken ∙ y)))
 
       module _ (whole : broken ≡ NONE) (v : ℕ) (ve : v ≡ allLost texts lines facts ls fs counts) where
@@ -218,15 +215,12 @@ module _ (texts lines facts : List (List ℕ)) (counts : List ℕ) (long : lengt
         lost-refused : (z : Judged) → (v ≡ NONE → ⊥) → z ≡ told lostEdit v 0 → merge O Bs ≡ refused (z .code) (z .place)
         lost-refused z h e =
             as-told z lostEdit _ v e is-lost
-            (merge-25 O Bs (no-content (w .content)) (no-parent (w .parent)) (no-neighbour (w .neighbour)) no-broken low-lost
+            (merge-25 O Bs (no-content (w .content)) (no-parent (w .parent)) (no-neighbour (w .neighbour)) no-broken
             (λ y. h (is-lost ∙ y)))
 
         -- ---- the tree
 
         module _ (x : Row) (m : x ∈ t) where
-          abbrev n : ℕ
-          n = x .number
-
           from : (k : ℕ) × (T (hasIn (getD lines k []) (x .number)) × (k < TABLES))
           from =
               let y = branch-has texts lines facts old branches (b .side) (x .number) (laid .within (x .number) (row-number t x m)) in

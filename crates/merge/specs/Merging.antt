@@ -1,6 +1,5 @@
 -- What merging the tables in memory asks, answers and leaves in the two lent buffers. texts, lines and facts are those of the tables that
--- are
--- merged, old and branches their rows, `counts` how many they have; a name with a prime is a buffer afterwards. Assumes nothing.
+-- are merged, old and branches their rows, `counts` how many they have; a name with a prime is a buffer afterwards. Assumes nothing.
 use mathlib.Core.List.{List}
 use Prim.Native.Nat.{ℕ}
 use lib.ListN.{length}
