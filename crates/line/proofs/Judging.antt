@@ -1,7 +1,7 @@
 -- The faults of a line's parts, in their order, and its row. s is what is left of the text, l the line without its LF, `parts` what was
 -- found of its parts, p a part that writes a number, n the number read there. Assumes nothing.
 use mathlib.Core.Path.{_≡_, refl, sym, ap, _∙_}
-use mathlib.Core.Bool.{Bool, true, false, cond, not, _&&_, true≢false}
+use mathlib.Core.Bool.{Bool, true, false, cond, not, _&&_, true≢false, and-false}
 use mathlib.Core.List.{List}
 use Prim.Native.Nat.{ℕ, min, _+_, _-_, _<_, _≤_}
 use native.Mathlib.Omega.{arith}
@@ -17,7 +17,6 @@ use Rattle.rules.specs.Line.{numberPart, parentPart, contentPart, numberOk, par
 use Rattle.rules.specs.Text.{TAB, LF, allowed, count, before, decimal, value, filled, contentOk}
 use Rattle.text.specs.Reads.{NONE, numberIn}
 use Rattle.text.proofs.Places.{part-from, left-none}
-use Rattle.text.proofs.Runs.{and-false}
 use Rattle.line.specs.Parts.{contentFits, shapeFault, noParts, goodParts, partsOf}
 use Rattle.line.specs.Told.{faulty, good, lineTold, nextLine}
 use Rattle.line.specs.declared.Line.{Line}

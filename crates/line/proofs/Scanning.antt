@@ -1,7 +1,7 @@
 -- The fields of a content, one after another up to their tabs. t is what is left of the text s from a field's start `from` on, `end` the
 -- place where the field's plain bytes end, x the byte there, p plain bytes, r what stands behind them. Assumes nothing.
 use mathlib.Core.Path.{_≡_, refl, sym, ap, _∙_}
-use mathlib.Core.Bool.{Bool, true, false, _&&_}
+use mathlib.Core.Bool.{Bool, true, false, _&&_, and-true}
 use mathlib.Core.List.{List, [], _∷_, _++_}
 use Prim.Native.Nat.{ℕ, suc, _+_, _-_, _<_}
 use native.Mathlib.Omega.{arith}
@@ -44,10 +44,6 @@ tab-filled p c h =
     ∙ ap (λ (u : Bool). u && allFilled c) (filled-long p)
 
 -- the last field
-and-true : (u : Bool) → (u && true) ≡ u
-and-true true = refl
-and-true false = refl
-
 last-run : (p r : List ℕ) → T (every plain p) → allowedRun r ≡ 0 → allowedRun (p ++ r) ≡ length p
 last-run p r h z = allowed-run p r h ∙ omega (arith, z)
 

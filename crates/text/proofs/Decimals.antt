@@ -1,7 +1,7 @@
 -- The number that the plain bytes from a place on write: its digits, as their loop goes, and then the byte that ended them. s is the
 -- text, i and `from` are places in it, t is what is left of it, v the number that the digits before write, x a byte. Assumes nothing.
 use mathlib.Core.Path.{_≡_, refl, sym, ap, _∙_}
-use mathlib.Core.Bool.{Bool, true, false, cond, not, _&&_, true≢false}
+use mathlib.Core.Bool.{Bool, true, false, cond, not, _&&_, true≢false, and-false}
 use mathlib.Core.List.{List, [], _∷_}
 use Prim.Native.Nat.{ℕ, zero, suc, _+_, _-_, _*_, _<_, _≤_}
 use native.Mathlib.Omega.{arith}
@@ -17,7 +17,7 @@ use Rattle.rules.specs.Text.{LF, digit, noLeadingZero, valueFrom, value}
 use Rattle.text.specs.Reads.{byteAt, plain, plainRun, NONE, numberIn, numberAt, digitRun, digitsFrom, opens}
 use Rattle.text.specs.declared.Number.{Number}
 use Rattle.text.proofs.Places.{left-next, left-none}
-use Rattle.text.proofs.Runs.{both, and-false}
+use Rattle.text.proofs.Runs.{both}
 
 -- ---- the digits, as their loop goes
 

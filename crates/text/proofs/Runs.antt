@@ -20,10 +20,6 @@ pub both : (a b : Bool) → (a && b) ≡ true → (a ≡ true) × (b ≡ true)
 both true b q = (refl, q)
 both false b q = absurd (true≢false (sym q))
 
-pub and-false : (a : Bool) → (a && false) ≡ false
-and-false true = refl
-and-false false = refl
-
 -- ---- one byte
 
 pub plain-low : (x : ℕ) → x < 32 → false ≡ plain x
