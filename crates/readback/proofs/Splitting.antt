@@ -88,12 +88,6 @@ after-le b (x ∷ s) =
     let ih : length (after b s) ≤ length s = after-le b s in
     elim (eqb x b) as (λ u. length (cond u s (after b s)) ≤ suc (length s)) [ true ↦ omega arith | false ↦ omega arith ]
 
-pub after-lt : (b : ℕ) (s : List ℕ) → 0 < length s → length (after b s) < length s
-after-lt b [] h = absurd (omega arith)
-after-lt b (x ∷ s) h =
-    let le : length (after b s) ≤ length s = after-le b s in
-    elim (eqb x b) as (λ u. length (cond u s (after b s)) < suc (length s)) [ true ↦ omega arith | false ↦ omega arith ]
-
 -- what stands after the byte is what is left from some place on
 pub after-left : (b : ℕ) (s : List ℕ) → after b s ≡ drop (length s - length (after b s)) s
 after-left b [] = refl

@@ -1,8 +1,8 @@
 -- What the test for a record's number says: above the top, below START. n is a number. Assumes nothing.
 use Prim.Native.Nat.{ℕ, _<_}
 use native.Mathlib.Omega.{arith}
-use lib.Dec.{T, leb, leb→le, le→leb}
-use mir.Facts.{and-yes, yes-and}
+use lib.Dec.{T, leb, leb→le}
+use mir.Facts.{and-yes}
 use Rattle.rules.specs.Limits.{GREATEST}
 use Rattle.rules.specs.Marks.{TOP, START, isRecord}
 
@@ -11,6 +11,3 @@ record-low n t = omega (arith, leb→le 1 n (and-yes (leb 1 n) (leb n GREATEST) 
 
 pub record-high : (n : ℕ) → T (isRecord n) → n < START
 record-high n t = omega (arith, leb→le n GREATEST (and-yes (leb 1 n) (leb n GREATEST) t .1))
-
-pub record-between : (n : ℕ) → TOP < n → n < START → T (isRecord n)
-record-between n low high = yes-and (leb 1 n) (leb n GREATEST) (le→leb 1 n low) (le→leb n GREATEST (omega arith))

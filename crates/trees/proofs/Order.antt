@@ -100,15 +100,6 @@ refuse-same code (n ∷ ns) (m ∷ ms) u v h g e =
     let d : least n ns ≡ least m ms = omega arith in
     ap (refused code) d
 
--- for a search that goes up: the refusal is at the first place that is in the list
-pub refuse-at : (code n : ℕ) (ns : List ℕ) (u : Result) → n ∈ ns → ((m : ℕ) → m ∈ ns → n ≤ m) → refuse code ns u ≡ refused code n
-refuse-at code n [] u i h = absurd (List·Memᴰ·not-nil i)
-refuse-at code n (m ∷ ns) u i h =
-    let p = least-le m ns n i in
-    let q = h (least m ns) (least-in m ns) in
-    let d : least m ns ≡ n = omega arith in
-    ap (refused code) d
-
 -- ---- edits and places of codes 21 to 23
 
 module _ (old : Facts) (branches others : List Facts) (h : Sub branches others) where
