@@ -1,7 +1,7 @@
 -- Which old facts are kept, and who follows by the kept facts, read off the answers of the tables. q k is asked of table k, and table 0 is
 -- old; a and b are facts, r is a parent, p the one before, s the one after, n a record, k a branch. Assumes nothing.
 use mathlib.Core.Path.{_≡_, refl, sym, _∙_, subst}
-use mathlib.Core.Logic.{_⊎_, inl, inr}
+use mathlib.Core.Logic.{_⊎_, inl, inr, _↔_}
 use mathlib.Core.Bool.{Bool, true, false, not, _&&_, cond}
 use mathlib.Core.List.{List, map}
 use Prim.Native.Nat.{ℕ, _<_}
@@ -178,7 +178,6 @@ module _ (q : ℕ → Asked) (old : Facts) (branches : List Facts) (w : Views q 
   unfolding keptPositions positionEdits
   kept-edit a m = edit-kept position-tells (old .positions) (map positionsOf branches) positionsDisagree a m
 
-  -- an old fact is kept exactly if each branch has it or knows neither of its ends
   keeps-kept : (a : PositionFact) → a ∈ old .positions → ((k : ℕ) → IsBranch k → KeptBy k a) → a ∈ keptPositions old branches
   unfolding keptPositions positionEdits
   keeps-kept a m h =
@@ -200,6 +199,10 @@ module _ (q : ℕ → Asked) (old : Facts) (branches : List Facts) (w : Views q 
         | inl e ↦ absurd (edit-is q old branches w a e .1 .2 m)
         | inr x ↦ agrees-keeps vo (w .view k (b .1)) a m (λ c j n. x .1 c (is-edit q old branches w k c (b, j, n)))
       ]
+
+  -- an old fact is kept exactly if each branch has it or knows neither of its ends
+  pub kept-rule : (a : PositionFact) → a ∈ old .positions → (a ∈ keptPositions old branches) ↔ ((k : ℕ) → IsBranch k → KeptBy k a)
+  kept-rule a m = (kept-keeps a m, keeps-kept a m)
 
   -- ---- who follows
 

@@ -78,15 +78,15 @@ module _ (ls fs : List ℕ) (t : List Row) (y : Row) (l start long : ℕ) (h : H
 
   -- ---- lines
 
-  pub line-other : (m : ℕ) → (m ≡ n → ⊥) → lineAt ls′ m ≡ lineAt ls m
+  line-other : (m : ℕ) → (m ≡ n → ⊥) → lineAt ls′ m ≡ lineAt ls m
   line-other m ne = ap (λ (v : ℕ). cond (ltb v ROOM) v 0) (getD-set-other ls n m l 0 ne)
 
-  pub line-new : lineAt ls′ n ≡ l
+  line-new : lineAt ls′ n ≡ l
   line-new =
       ap (λ (v : ℕ). cond (ltb v ROOM) v 0) (getD-set-same ls n l 0 (omega (arith, record-high n record-y)))
       ∙ rw (lt-ltb l ROOM room)
 
-  pub lines-kept : length ls′ ≡ length ls
+  lines-kept : length ls′ ≡ length ls
   lines-kept = length-set ls n l
 
   line-known : (m : ℕ) → Known m → lineAt ls′ m ≡ lineAt ls m
@@ -152,7 +152,7 @@ module _ (ls fs : List ℕ) (t : List Row) (y : Row) (l start long : ℕ) (h : H
   length₂ : length fs₂ ≡ length fs
   length₂ = length-set fs₁ turned n ∙ length₁
 
-  pub facts-kept : length fs′ ≡ length fs
+  facts-kept : length fs′ ≡ length fs
   facts-kept = length-set fs₂ ended n ∙ length₂
 
   -- any other place is as the new line's fields left it
@@ -208,15 +208,15 @@ module _ (ls fs : List ℕ) (t : List Row) (y : Row) (l start long : ℕ) (h : H
   named-new : field ls′ fs′ n NUMBER ≡ n
   named-new = field-new NUMBER n (omega arith) (laid-at NUMBER (omega arith))
 
-  pub parent-new : field ls′ fs′ n PARENT ≡ r
+  parent-new : field ls′ fs′ n PARENT ≡ r
   parent-new = grows .parent
 
-  pub parent-same : (m : ℕ) → m ∈ numbers t → field ls′ fs′ m PARENT ≡ field ls fs m PARENT
+  parent-same : (m : ℕ) → m ∈ numbers t → field ls′ fs′ m PARENT ≡ field ls fs m PARENT
   parent-same m k = side-same m PARENT (there k) (omega arith) (inl (omega arith))
 
   -- ---- where contents lie
 
-  pub add-part-new : partAt ls′ fs′ n ≡ record { start = start; length = long }
+  add-part-new : partAt ls′ fs′ n ≡ record { start = start; length = long }
   add-part-new = λ i. record { start = place i; length = size i }
     where
       place : field ls′ fs′ n PLACE ≡ start
@@ -225,7 +225,7 @@ module _ (ls fs : List ℕ) (t : List Row) (y : Row) (l start long : ℕ) (h : H
       size : field ls′ fs′ n LENGTH ≡ long
       size = field-new LENGTH long (omega arith) (laid-at LENGTH (omega arith))
 
-  pub add-part-same : (m : ℕ) → m ∈ numbers t → partAt ls′ fs′ m ≡ partAt ls fs m
+  add-part-same : (m : ℕ) → m ∈ numbers t → partAt ls′ fs′ m ≡ partAt ls fs m
   add-part-same m k = λ i. record { start = place i; length = size i }
     where
       place : field ls′ fs′ m PLACE ≡ field ls fs m PLACE

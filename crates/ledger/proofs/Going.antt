@@ -33,7 +33,7 @@ module _ (ls fs : List ℕ) where
   restOf count bytes ns = flat entryLine (map (entryAt ls fs) ns) ++ totalOf count bytes
 
   -- a table's entries, by its records
-  pub entries-in : (t : List Row) → entriesIn ls fs t ≡ map (entryAt ls fs) (numbersIn (treeOf t))
+  entries-in : (t : List Row) → entriesIn ls fs t ≡ map (entryAt ls fs) (numbersIn (treeOf t))
   entries-in t = sym (map-map (entryAt ls fs) numberOf (rows TOP (treeOf t))) ∙ ap (map (entryAt ls fs)) (numbers-rows TOP (treeOf t))
 
   -- as many as the table has records

@@ -142,7 +142,7 @@ module _ (ls fs : List ℕ) (t : List Row) (h : Holds ls fs t) (ok : Readable t)
     sums-are = q ∙ ap (sumsOf fs) e
 
     -- the content bytes of the ledger's last line
-    pub sums-bytes : s .bytes ≡ bytesIn (entriesIn ls fs t)
+    sums-bytes : s .bytes ≡ bytesIn (entriesIn ls fs t)
     sums-bytes = ap (λ (u : Sums). u .bytes) sums-are ∙ by-entries (lineBytes fs) (λ (y : Entry). y .bytes) (λ n k. refl)
 
     -- the ledger's length
@@ -160,7 +160,7 @@ module _ (ls fs : List ℕ) (t : List Row) (h : Holds ls fs t) (ok : Readable t)
         one n k = entry-length (entryAt ls fs n) ∙ omega (arith, ap width k)
 
     -- no more bytes than the written table has
-    pub sums-low : s .bytes ≤ s .table
+    sums-low : s .bytes ≤ s .table
     sums-low = omega (arith, ap (λ (u : Sums). u .bytes) q, ap (λ (u : Sums). u .table) q)
 
     -- the written table's length

@@ -40,7 +40,7 @@ module _ {nx : ℕ → ℕ → ℕ} {part : ℕ → Part} {kept : List PositionF
   follower-is : s ≡ nx q (d .p)
   follower-is = d .follows ∙ ap (λ (z : ℕ). nx z (d .p)) (d .parent)
 
-  pub stand-stop : (T (isRecord s) → ⊥) → Spread nx part known ct ls fs (i + 1) START count (min broken (place (not (eqb s END)) r))
+  stand-stop : (T (isRecord s) → ⊥) → Spread nx part known ct ls fs (i + 1) START count (min broken (place (not (eqb s END)) r))
   stand-stop h =
       subst (λ (b : ℕ). Spread nx part known ct ls fs (i + 1) START count b)
       (λ j. min broken (place (not (eqb (sym follower-is j) END)) (sym (d .parent) j)))
@@ -50,7 +50,7 @@ module _ {nx : ℕ → ℕ → ℕ} {part : ℕ → Part} {kept : List PositionF
     record-is : T (isRecord (nx q (d .p)))
     record-is = subst (λ (z : ℕ). T (isRecord z)) follower-is record-s
 
-    pub has-room : count + 1 < ROOM
+    has-room : count + 1 < ROOM
     has-room = room st (d .spread) (d .low) record-is
 
     module _ (all-lines : length ls ≡ NUMBERS) (all-facts : length fs ≡ ROOM * WIDTH) (ls′ fs′ : List ℕ) (start long : ℕ)
@@ -82,7 +82,7 @@ module _ {nx : ℕ → ℕ → ℕ} {part : ℕ → Part} {kept : List PositionF
           same = λ j. addFacts (addLine ls (count + 1) (follower-is j)) fs (count + 1) (follower-is j) (d .parent j)
               (field ls fs (d .parent j) LAST) (start-is j) (long-is j)
 
-      pub stand-on : Stand nx part known ct broken ls′ fs′ i r (count + 1) (nx r s)
+      stand-on : Stand nx part known ct broken ls′ fs′ i r (count + 1) (nx r s)
       stand-on = record {
         p = s;
         spread =

@@ -78,7 +78,7 @@ module _ {nx : ℕ → ℕ → ℕ} {part : ℕ → Part} {kept : List PositionF
   -- ---- a record follows
 
   module _ (record-s : T (isRecord s)) where
-    pub follower-known : s ∈ known
+    follower-known : s ∈ known
     follower-known = st .stays r p (up known-parent) last-known record-s
       where
         up : {q : ℕ} → q ∈ TOP ∷ numbers t → q ∈ TOP ∷ known
