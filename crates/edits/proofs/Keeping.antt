@@ -16,8 +16,8 @@ use Rattle.trees.proofs.Marks.{record-low}
 use Rattle.trees.proofs.Lists.{or-left, or-right, either, is-true}
 use Rattle.trees.proofs.Kept.{Coherent, Agrees, kept-cases, edit-kept, old-kept}
 use Rattle.trees.proofs.Disagreeing.{position-tells, positions-agree, one-after, one-before, one-parent, given-in, given-out, Given}
-use Rattle.facts.specs.Asked.{Asked, lists}
-use Rattle.facts.proofs.Views.{View, after-low, has-after, view-coherent}
+use Rattle.facts.specs.Asked.{Asked}
+use Rattle.facts.proofs.Views.{lists, View, after-low, has-after, view-coherent}
 use Rattle.edits.specs.Branches.{allBranches}
 use Rattle.edits.specs.Positions.{freshAfter, afterSource, knows, unknown, keeps, keptOld, keptAfter}
 use Rattle.edits.proofs.Branches.{IsBranch, first-yes, first-some, all-at, all-are}

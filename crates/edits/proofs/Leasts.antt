@@ -14,8 +14,8 @@ use Rattle.rules.specs.Merge.{parentClashes, neighbourClashes}
 use Rattle.trees.proofs.Lists.{or-left, or-right}
 use Rattle.trees.proofs.Marks.{record-high}
 use Rattle.facts.specs.Memory.{TABLES}
-use Rattle.facts.specs.Asked.{Asked, lists}
-use Rattle.facts.proofs.Views.{View}
+use Rattle.facts.specs.Asked.{Asked}
+use Rattle.facts.proofs.Views.{lists, View}
 use Rattle.edits.specs.Least.{NONE, leastOr, place, bestOf}
 use Rattle.edits.specs.Positions.{claims, twoParents, twoFollowers, twoForerunners, torn, parentPlace, neighbourPlace}
 use Rattle.edits.proofs.Branches.{IsBranch}

@@ -2,17 +2,22 @@
 -- parent, p the one before, s the one after, n a record. Assumes nothing.
 use mathlib.Core.Path.{_≡_, sym, ap, _∙_, subst}
 use mathlib.Core.Logic.{_⊎_, inl, inr}
+use mathlib.Core.Bool.{Bool, _||_}
 use mathlib.Core.List.{List, Memᴰ·cast}
 use Prim.Native.Nat.{ℕ, _<_}
 use native.Mathlib.Omega.{arith}
-use lib.Dec.{T}
+use lib.Dec.{T, eqb}
 use Rattle.rules.specs.Lists.{_∈_}
-use Rattle.rules.specs.Marks.{START, END, isRecord}
+use Rattle.rules.specs.Marks.{TOP, START, END, isRecord}
 use Rattle.rules.specs.Facts.{PositionFact, ParentGiven, position, parentsGiven, positionsDisagree}
 use Rattle.trees.proofs.Kept.{Coherent}
 use Rattle.trees.proofs.Disagreeing.{positions-agree, given-out}
 use Rattle.trees.proofs.Marks.{record-low}
-use Rattle.facts.specs.Asked.{Asked, lists}
+use Rattle.facts.specs.Asked.{Asked}
+
+-- a record has a list, and so has the top
+abbrev pub lists : Asked → ℕ → Bool
+lists q r = eqb r TOP || q .has r
 
 pub record View (q : Asked) (fs : List PositionFact) : Type 0 where
   pub to-after : (a : PositionFact) → a ∈ fs → q .after (a .parent) (a .before) ≡ a .after

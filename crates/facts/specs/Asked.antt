@@ -13,10 +13,6 @@ pub record Asked : Type 0 where
   pub up : ℕ → ℕ
   pub has : ℕ → Bool
 
--- a record has a list, and so has the top
-abbrev pub lists : Asked → ℕ → Bool
-lists q r = eqb r TOP || q .has r
-
 abbrev pub hasIn : List ℕ → ℕ → Bool
 hasIn ls n = ltb 0 (lineAt ls n)
 

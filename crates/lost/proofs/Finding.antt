@@ -23,7 +23,8 @@ use Rattle.trees.proofs.Disagreeing.{recordOf}
 use Rattle.trees.proofs.TableTree.{tree-of-table}
 use Rattle.trees.proofs.SameRows.{tree-number, number-tree}
 use Rattle.facts.specs.Memory.{TABLES}
-use Rattle.facts.specs.Asked.{Asked, lists, hasIn, asked}
+use Rattle.facts.specs.Asked.{Asked, hasIn, asked}
+use Rattle.facts.proofs.Views.{lists}
 use Rattle.facts.specs.Holds.{Holds}
 use Rattle.facts.proofs.Shown.{shown, number-has, has-number}
 use Rattle.edits.specs.Least.{NONE, leastOr, place}

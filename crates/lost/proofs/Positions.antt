@@ -15,8 +15,8 @@ use Rattle.rules.specs.Merge.{positionEdits}
 use Rattle.trees.proofs.Lists.{or-right, keep-in, keep-out}
 use Rattle.trees.proofs.Kept.{has-in, has-out}
 use Rattle.trees.proofs.Disagreeing.{position-tells, parentOf}
-use Rattle.facts.specs.Asked.{Asked, lists}
-use Rattle.facts.proofs.Views.{View, after-low, has-after}
+use Rattle.facts.specs.Asked.{Asked}
+use Rattle.facts.proofs.Views.{lists, View, after-low, has-after}
 use Rattle.edits.specs.Least.{NONE, place}
 use Rattle.edits.specs.Positions.{freshAfter}
 use Rattle.edits.proofs.Branches.{IsBranch}

@@ -19,7 +19,8 @@ use Rattle.trees.proofs.Lists.{is-true, or-left, or-right}
 use Rattle.trees.proofs.Kept.{Coherent}
 use Rattle.trees.proofs.Disagreeing.{numberOf}
 use Rattle.facts.specs.Memory.{ROOM}
-use Rattle.facts.specs.Asked.{Asked, lists}
+use Rattle.facts.specs.Asked.{Asked}
+use Rattle.facts.proofs.Views.{lists}
 use Rattle.edits.specs.Positions.{keptAfter, knows}
 use Rattle.edits.proofs.Branches.{IsBranch}
 use Rattle.edits.proofs.Clashing.{Views}
