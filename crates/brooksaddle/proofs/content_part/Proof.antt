@@ -10,47 +10,47 @@ use Rattle.facts.proofs.field.Reads as field-reads
 use Rattle.facts.proofs.has.Reads as has-reads
 use Rattle.table.proofs.read_table.Reads as read-table-reads
 
--- src/lib.rt:62:9
+-- src/lib.rt:160:9
 read-table-requires : tie.Need-read-table-requires
 read-table-requires c κs = search needs
 
--- src/lib.rt:64:9
+-- src/lib.rt:162:9
 no-part-requires : tie.Need-no-part-requires
 no-part-requires c κs = search needs
 
--- src/lib.rt:64:9
+-- src/lib.rt:162:9
 returns : tie.Need-returns
 returns c = search tellings
 
--- src/lib.rt:66:8
+-- src/lib.rt:164:8
 has-requires : tie.Need-has-requires
 has-requires c κs = search needs
 
--- src/lib.rt:67:21
+-- src/lib.rt:165:21
 field-requires : tie.Need-field-requires
 field-requires c κs = search needs
 
--- src/lib.rt:67:21
+-- src/lib.rt:165:21
 cast-start : tie.Need-cast-start
 cast-start c = search needs
 
--- src/lib.rt:68:22
+-- src/lib.rt:166:22
 field-requires-2 : tie.Need-field-requires-2
 field-requires-2 c κs = search needs
 
--- src/lib.rt:68:22
+-- src/lib.rt:166:22
 cast-length : tie.Need-cast-length
 cast-length c = search needs
 
--- src/lib.rt:69:9
+-- src/lib.rt:167:9
 returns-2 : tie.Need-returns-2
 returns-2 c = search tellings
 
--- src/lib.rt:71:5
+-- src/lib.rt:169:5
 no-part-requires-2 : tie.Need-no-part-requires-2
 no-part-requires-2 c κs = search needs
 
--- src/lib.rt:57:1
+-- src/lib.rt:155:1
 returns-3 : tie.Need-returns-3
 returns-3 c = search tellings
 

@@ -8,27 +8,27 @@ use Rattle.contents.proofs.content.Lts as lts
 use Rattle.contents.proofs.cut.Reads as cut-reads
 use Rattle.contents.proofs.field_in.Reads as field-in-reads
 
--- src/lib.rt:74:9
+-- src/lib.rt:79:9
 field-in-requires : tie.Need-field-in-requires
 field-in-requires c κs = search needs
 
--- src/lib.rt:75:9
+-- src/lib.rt:80:9
 field-in-requires-2 : tie.Need-field-in-requires-2
 field-in-requires-2 c κs = search needs
 
--- src/lib.rt:76:9
+-- src/lib.rt:81:9
 mul-cut : tie.Need-mul-cut
 mul-cut c = search needs
 
--- src/lib.rt:76:9
+-- src/lib.rt:81:9
 shared-slice-copy-out-cut : tie.Need-shared-slice-copy-out-cut
 shared-slice-copy-out-cut c = search needs
 
--- src/lib.rt:76:5
+-- src/lib.rt:81:5
 cut-requires : tie.Need-cut-requires
 cut-requires c κs = search needs
 
--- src/lib.rt:64:1
+-- src/lib.rt:69:1
 returns : tie.Need-returns
 returns c = search tells
 

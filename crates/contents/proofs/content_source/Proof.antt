@@ -22,27 +22,27 @@ Inv-loop texts lines facts n table₀ origin₀ t₀ table origin t =
 abbrev μ-loop : tie.MeasureT-loop
 μ-loop texts lines facts n table₀ origin₀ t₀ table origin t = TABLES - t
 
--- src/lib.rt:158:5
+-- src/lib.rt:163:5
 loop-holds : tie.Need-loop-holds Inv-loop μ-loop
 loop-holds c = search seeks
 
--- src/lib.rt:159:12
+-- src/lib.rt:164:12
 fresh-content-requires : tie.Need-fresh-content-requires Inv-loop μ-loop
 fresh-content-requires c κs = search seeks
 
--- src/lib.rt:163:13
+-- src/lib.rt:168:13
 add-origin : tie.Need-add-origin Inv-loop μ-loop
 add-origin c = search seeks
 
--- src/lib.rt:165:9
+-- src/lib.rt:170:9
 add-t : tie.Need-add-t Inv-loop μ-loop
 add-t c = search seeks
 
--- src/lib.rt:158:5
+-- src/lib.rt:163:5
 loop-less : tie.Need-loop-less Inv-loop μ-loop
 loop-less c = search seeks
 
--- src/lib.rt:158:5
+-- src/lib.rt:163:5
 loop-again : tie.Need-loop-again Inv-loop μ-loop
 loop-again c =
     let s = c .before .before .before .before .args in
@@ -58,7 +58,7 @@ loop-again c =
       | inr u ↦ seek-moved test _ _ _ (seek-on test _ _ _ w _ low asked (u .0 .left)) (u .1) (u .2)
     ]
 
--- src/lib.rt:143:1
+-- src/lib.rt:148:1
 returns : tie.Need-returns Inv-loop μ-loop
 returns c = (search seeks, (search seeks, (search seeks, search seeks)))
 

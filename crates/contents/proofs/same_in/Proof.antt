@@ -8,19 +8,19 @@ use Rattle.contents.proofs.same_in.Lts as lts
 use Rattle.contents.proofs.content.Reads as content-reads
 use Rattle.contents.proofs.same.Reads as same-reads
 
--- src/lib.rt:93:9
+-- src/lib.rt:98:9
 content-requires : tie.Need-content-requires
 content-requires c κs = search needs
 
--- src/lib.rt:94:9
+-- src/lib.rt:99:9
 content-requires-2 : tie.Need-content-requires-2
 content-requires-2 c κs = search needs
 
--- src/lib.rt:95:5
+-- src/lib.rt:100:5
 same-requires : tie.Need-same-requires
 same-requires c κs = search needs
 
--- src/lib.rt:80:1
+-- src/lib.rt:85:1
 returns : tie.Need-returns
 returns c = search asks
 

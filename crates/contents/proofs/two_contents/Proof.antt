@@ -9,23 +9,23 @@ use Rattle.contents.proofs.content_source.Reads as content-source-reads
 use Rattle.contents.proofs.fresh_content.Reads as fresh-content-reads
 use Rattle.contents.proofs.same_in.Reads as same-in-reads
 
--- src/lib.rt:183:8
+-- src/lib.rt:188:8
 fresh-content-requires : tie.Need-fresh-content-requires
 fresh-content-requires c κs = search needs
 
--- src/lib.rt:184:13
+-- src/lib.rt:189:13
 content-source-requires : tie.Need-content-source-requires
 content-source-requires c κs = search needs
 
--- src/lib.rt:186:17
+-- src/lib.rt:191:17
 same-in-requires : tie.Need-same-in-requires
 same-in-requires c κs = search needs
 
--- src/lib.rt:186:9
+-- src/lib.rt:191:9
 returns : tie.Need-returns
 returns c = search asks
 
--- src/lib.rt:173:1
+-- src/lib.rt:178:1
 returns-2 : tie.Need-returns-2
 returns-2 c = search asks
 

@@ -22,35 +22,35 @@ Inv-loop texts lines facts ls₀ fs₀ i₀ count₀ broken₀ ls fs i count bro
 abbrev μ-loop : tie.MeasureT-loop
 μ-loop texts lines facts ls₀ fs₀ i₀ count₀ broken₀ ls fs i count broken = ROOM - i
 
--- src/lib.rt:91:5
+-- src/lib.rt:90:5
 loop-holds : tie.Need-loop-holds Inv-loop μ-loop
 loop-holds c = search finishes
 
--- src/lib.rt:92:13
+-- src/lib.rt:91:13
 number-on-requires : tie.Need-number-on-requires Inv-loop μ-loop
 number-on-requires c κs = search finishes
 
--- src/lib.rt:93:13
+-- src/lib.rt:92:13
 lay-list-requires : tie.Need-lay-list-requires Inv-loop μ-loop
 lay-list-requires c κs = search finishes
 
--- src/lib.rt:94:13
+-- src/lib.rt:93:13
 place-requires : tie.Need-place-requires Inv-loop μ-loop
 place-requires c κs = search finishes
 
--- src/lib.rt:95:9
+-- src/lib.rt:94:9
 smaller-requires : tie.Need-smaller-requires Inv-loop μ-loop
 smaller-requires c κs = search finishes
 
--- src/lib.rt:97:9
+-- src/lib.rt:96:9
 add-i : tie.Need-add-i Inv-loop μ-loop
 add-i c = search finishes
 
--- src/lib.rt:91:5
+-- src/lib.rt:90:5
 loop-less : tie.Need-loop-less Inv-loop μ-loop
 loop-less c = search finishes
 
--- src/lib.rt:91:5
+-- src/lib.rt:90:5
 loop-again : tie.Need-loop-again Inv-loop μ-loop
 loop-again c =
     let list = c .before .before .before .before in
@@ -59,7 +59,7 @@ loop-again c =
     next-line _ _ _ _ _ _ _ _ _ (turn .before .loop .inv) _ _ _ _ _ _ _ (turn .loop-test .taken) (line .number-on .ensures)
     (list .lay-list .ensures .0) (list .lay-list .ensures .1) (c .before .place .ensures) (c .smaller .ensures)
 
--- src/lib.rt:74:1
+-- src/lib.rt:73:1
 returns : tie.Need-returns Inv-loop μ-loop
 returns c = search finishes
 

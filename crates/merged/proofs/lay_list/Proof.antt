@@ -24,66 +24,66 @@ Inv-loop texts lines facts ls₀ fs₀ i r from count₀ s₀ ls fs count s =
 abbrev μ-loop : tie.MeasureT-loop
 μ-loop texts lines facts ls₀ fs₀ i r from count₀ s₀ ls fs count s = ROOM - count
 
--- src/lib.rt:57:5
+-- src/lib.rt:56:5
 column-requires : tie.Need-column-requires Inv-loop μ-loop
 column-requires c κs = search lists
 
--- src/lib.rt:58:5
+-- src/lib.rt:57:5
 width-requires : tie.Need-width-requires Inv-loop μ-loop
 width-requires c κs = search lists
 
--- src/lib.rt:60:9
+-- src/lib.rt:59:9
 kept-after-requires : tie.Need-kept-after-requires Inv-loop μ-loop
 kept-after-requires c κs = search lists
 
--- src/lib.rt:61:5
+-- src/lib.rt:60:5
 loop-holds : tie.Need-loop-holds Inv-loop μ-loop
 loop-holds c = search lists
 
--- src/lib.rt:61:19
+-- src/lib.rt:60:19
 sub-loop : tie.Need-sub-loop Inv-loop μ-loop
 sub-loop c = search lists
 
--- src/lib.rt:62:13
+-- src/lib.rt:61:13
 new-requires : tie.Need-new-requires Inv-loop μ-loop
 new-requires c κs = search lists
 
--- src/lib.rt:62:13
+-- src/lib.rt:61:13
 is-record-requires : tie.Need-is-record-requires Inv-loop μ-loop
 is-record-requires c κs = search lists
 
--- src/lib.rt:63:13
+-- src/lib.rt:62:13
 returns : tie.Need-returns Inv-loop μ-loop
 returns c = (search lists, search lists)
 
--- src/lib.rt:65:9
+-- src/lib.rt:64:9
 add-count : tie.Need-add-count Inv-loop μ-loop
 add-count c = search lists
 
--- src/lib.rt:66:13
+-- src/lib.rt:65:13
 kept-content-requires : tie.Need-kept-content-requires Inv-loop μ-loop
 kept-content-requires c κs = search lists
 
--- src/lib.rt:67:9
+-- src/lib.rt:66:9
 add-line-requires : tie.Need-add-line-requires Inv-loop μ-loop
 add-line-requires c κs =
     let other = c .before .before .before in
     let tested = other .before in
     (search lists, follower-fits _ _ _ (tested .before .new .ensures) (tested .is-record .ensures) (other .if1 .left))
 
--- src/lib.rt:68:9
+-- src/lib.rt:67:9
 kept-after-requires-2 : tie.Need-kept-after-requires-2 Inv-loop μ-loop
 kept-after-requires-2 c κs = search lists
 
--- src/lib.rt:61:5
+-- src/lib.rt:60:5
 loop-less : tie.Need-loop-less Inv-loop μ-loop
 loop-less c = search lists
 
--- src/lib.rt:61:5
+-- src/lib.rt:60:5
 loop-again : tie.Need-loop-again Inv-loop μ-loop
 loop-again c = search lists
 
--- src/lib.rt:40:1
+-- src/lib.rt:39:1
 returns-2 : tie.Need-returns-2 Inv-loop μ-loop
 returns-2 c = search lists
 

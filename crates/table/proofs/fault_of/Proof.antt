@@ -8,31 +8,31 @@ use Rattle.table.proofs.fault_of.Lts as lts
 use Rattle.facts.proofs.has.Reads as has-reads
 use Rattle.facts.proofs.list.Reads as list-reads
 
--- src/lib.rt:29:9
+-- src/lib.rt:60:9
 returns : tie.Need-returns
 returns c = search judges
 
--- src/lib.rt:33:9
+-- src/lib.rt:64:9
 returns-2 : tie.Need-returns-2
 returns-2 c = search judges
 
--- src/lib.rt:35:8
+-- src/lib.rt:66:8
 has-requires : tie.Need-has-requires
 has-requires c κs = search needs
 
--- src/lib.rt:36:9
+-- src/lib.rt:67:9
 returns-3 : tie.Need-returns-3
 returns-3 c = search judges
 
--- src/lib.rt:38:8
+-- src/lib.rt:69:8
 list-requires : tie.Need-list-requires
 list-requires c κs = search needs
 
--- src/lib.rt:39:9
+-- src/lib.rt:70:9
 returns-4 : tie.Need-returns-4
 returns-4 c = search judges
 
--- src/lib.rt:25:1
+-- src/lib.rt:56:1
 returns-5 : tie.Need-returns-5
 returns-5 c = search judges
 

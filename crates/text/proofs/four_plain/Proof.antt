@@ -4,51 +4,51 @@ use borrow.Author.Needs.{needs}
 use Rattle.text.proofs.four_plain.Statement.{statement}
 use Rattle.text.proofs.four_plain.Tie as tie
 
--- src/lib.rt:41:9
+-- src/lib.rt:49:9
 returns : tie.Need-returns
 returns c = search runs
 
--- src/lib.rt:43:8
+-- src/lib.rt:51:8
 sub-if2 : tie.Need-sub-if2
 sub-if2 c = search needs
 
--- src/lib.rt:44:9
+-- src/lib.rt:52:9
 returns-2 : tie.Need-returns-2
 returns-2 c = search runs
 
--- src/lib.rt:46:15
+-- src/lib.rt:54:15
 shared-slice-read-all-plain : tie.Need-shared-slice-read-all-plain
 shared-slice-read-all-plain c = search needs
 
--- src/lib.rt:46:23
+-- src/lib.rt:54:23
 add-all-plain : tie.Need-add-all-plain
 add-all-plain c = search needs
 
--- src/lib.rt:46:21
+-- src/lib.rt:54:21
 shared-slice-read-all-plain-2 : tie.Need-shared-slice-read-all-plain-2
 shared-slice-read-all-plain-2 c = search needs
 
--- src/lib.rt:46:33
+-- src/lib.rt:54:33
 add-all-plain-2 : tie.Need-add-all-plain-2
 add-all-plain-2 c = search needs
 
--- src/lib.rt:46:31
+-- src/lib.rt:54:31
 shared-slice-read-all-plain-3 : tie.Need-shared-slice-read-all-plain-3
 shared-slice-read-all-plain-3 c = search needs
 
--- src/lib.rt:46:43
+-- src/lib.rt:54:43
 add-all-plain-3 : tie.Need-add-all-plain-3
 add-all-plain-3 c = search needs
 
--- src/lib.rt:46:41
+-- src/lib.rt:54:41
 shared-slice-read-all-plain-4 : tie.Need-shared-slice-read-all-plain-4
 shared-slice-read-all-plain-4 c = search needs
 
--- src/lib.rt:46:5
+-- src/lib.rt:54:5
 all-plain-requires : tie.Need-all-plain-requires
 all-plain-requires c κs = search needs
 
--- src/lib.rt:37:1
+-- src/lib.rt:45:1
 returns-3 : tie.Need-returns-3
 returns-3 c = search runs
 

@@ -13,27 +13,27 @@ Inv-loop s from i₀ i = i + plainRun (drop i s) ≡ from + plainRun (drop from 
 abbrev μ-loop : tie.MeasureT-loop
 μ-loop s from i₀ i = length s - i
 
--- src/lib.rt:54:5
+-- src/lib.rt:62:5
 loop-holds : tie.Need-loop-holds Inv-loop μ-loop
 loop-holds c = search runs
 
--- src/lib.rt:54:11
+-- src/lib.rt:62:11
 four-plain-requires : tie.Need-four-plain-requires Inv-loop μ-loop
 four-plain-requires c κs = search runs
 
--- src/lib.rt:55:9
+-- src/lib.rt:63:9
 add-i : tie.Need-add-i Inv-loop μ-loop
 add-i c = search runs
 
--- src/lib.rt:54:5
+-- src/lib.rt:62:5
 loop-less : tie.Need-loop-less Inv-loop μ-loop
 loop-less c = search runs
 
--- src/lib.rt:54:5
+-- src/lib.rt:62:5
 loop-again : tie.Need-loop-again Inv-loop μ-loop
 loop-again c = search runs
 
--- src/lib.rt:50:1
+-- src/lib.rt:58:1
 returns : tie.Need-returns Inv-loop μ-loop
 returns c = search runs
 

@@ -50,7 +50,7 @@ write-list-Inv-loop texts lines facts out₀ r n q₀ next₀ out q next =
 abbrev write-list-μ-loop : write-list-lts.MeasureT-loop
 write-list-μ-loop texts lines facts out₀ r n q₀ next₀ out q next = q .left
 
--- src/lib.rt:113:5
+-- src/lib.rt:105:5
 write-list-loop-holds : (t : ℕ) → write-list-lts.Need-loop-holds (
   write-record-below t,
   write-record.Post,
@@ -59,7 +59,7 @@ write-list-loop-holds : (t : ℕ) → write-list-lts.Need-loop-holds (
 ) (write-list-at t) write-list.Post write-list-Inv-loop write-list-μ-loop
 write-list-loop-holds t c = search lists
 
--- src/lib.rt:114:9
+-- src/lib.rt:106:9
 write-list-write-record-requires : (t : ℕ) → write-list-lts.Need-write-record-requires (
   write-record-below t,
   write-record.Post,
@@ -68,7 +68,7 @@ write-list-write-record-requires : (t : ℕ) → write-list-lts.Need-write-recor
 ) (write-list-at t) write-list.Post write-list-Inv-loop write-list-μ-loop
 write-list-write-record-requires t c κs = search lists
 
--- src/lib.rt:115:9
+-- src/lib.rt:107:9
 write-list-field-requires : (t : ℕ) → write-list-lts.Need-field-requires (
   write-record-below t,
   write-record.Post,
@@ -77,7 +77,7 @@ write-list-field-requires : (t : ℕ) → write-list-lts.Need-field-requires (
 ) (write-list-at t) write-list.Post write-list-Inv-loop write-list-μ-loop
 write-list-field-requires t c κs = search lists
 
--- src/lib.rt:113:5
+-- src/lib.rt:105:5
 write-list-loop-less : (t : ℕ) → write-list-lts.Need-loop-less (
   write-record-below t,
   write-record.Post,
@@ -86,7 +86,7 @@ write-list-loop-less : (t : ℕ) → write-list-lts.Need-loop-less (
 ) (write-list-at t) write-list.Post write-list-Inv-loop write-list-μ-loop
 write-list-loop-less t c = search lists
 
--- src/lib.rt:113:5
+-- src/lib.rt:105:5
 write-list-loop-again : (t : ℕ) → write-list-lts.Need-loop-again (
   write-record-below t,
   write-record.Post,
@@ -95,7 +95,7 @@ write-list-loop-again : (t : ℕ) → write-list-lts.Need-loop-again (
 ) (write-list-at t) write-list.Post write-list-Inv-loop write-list-μ-loop
 write-list-loop-again t c = search lists
 
--- src/lib.rt:97:1
+-- src/lib.rt:89:1
 write-list-same-length : (t : ℕ) → write-list-lts.Need-same-length (
   write-record-below t,
   write-record.Post,
@@ -104,7 +104,7 @@ write-list-same-length : (t : ℕ) → write-list-lts.Need-same-length (
 ) (write-list-at t) write-list.Post write-list-Inv-loop write-list-μ-loop
 write-list-same-length t c = search lists
 
--- src/lib.rt:97:1
+-- src/lib.rt:89:1
 write-list-returns : (t : ℕ) → write-list-lts.Need-returns (
   write-record-below t,
   write-record.Post,
@@ -113,7 +113,7 @@ write-list-returns : (t : ℕ) → write-list-lts.Need-returns (
 ) (write-list-at t) write-list.Post write-list-Inv-loop write-list-μ-loop
 write-list-returns t c = search lists
 
--- src/lib.rt:86:9
+-- src/lib.rt:78:9
 write-record-write-row-requires : (t : ℕ) → write-record-lts.Need-write-row-requires (
   write-row-reads.Asked,
   write-row-reads.Learnt,
@@ -124,7 +124,7 @@ write-record-write-row-requires : (t : ℕ) → write-record-lts.Need-write-row-
 ) (write-record-at t) write-record.Post
 write-record-write-row-requires t c κs = search records
 
--- src/lib.rt:87:16
+-- src/lib.rt:79:16
 write-record-sub-left : (t : ℕ) → write-record-lts.Need-sub-left (
   write-row-reads.Asked,
   write-row-reads.Learnt,
@@ -135,7 +135,7 @@ write-record-sub-left : (t : ℕ) → write-record-lts.Need-sub-left (
 ) (write-record-at t) write-record.Post
 write-record-sub-left t c = search records
 
--- src/lib.rt:88:9
+-- src/lib.rt:80:9
 write-record-field-requires : (t : ℕ) → write-record-lts.Need-field-requires (
   write-row-reads.Asked,
   write-row-reads.Learnt,
@@ -146,7 +146,7 @@ write-record-field-requires : (t : ℕ) → write-record-lts.Need-field-requires
 ) (write-record-at t) write-record.Post
 write-record-field-requires t c κs = search records
 
--- src/lib.rt:91:9
+-- src/lib.rt:83:9
 write-record-same-length : (t : ℕ) → write-record-lts.Need-same-length (
   write-row-reads.Asked,
   write-row-reads.Learnt,
@@ -157,7 +157,7 @@ write-record-same-length : (t : ℕ) → write-record-lts.Need-same-length (
 ) (write-record-at t) write-record.Post
 write-record-same-length t c = search records
 
--- src/lib.rt:91:9
+-- src/lib.rt:83:9
 write-record-returns : (t : ℕ) → write-record-lts.Need-returns (
   write-row-reads.Asked,
   write-row-reads.Learnt,
@@ -168,7 +168,7 @@ write-record-returns : (t : ℕ) → write-record-lts.Need-returns (
 ) (write-record-at t) write-record.Post
 write-record-returns t c = search records
 
--- src/lib.rt:93:5
+-- src/lib.rt:85:5
 write-record-write-list-requires : (t : ℕ) → write-record-lts.Need-write-list-requires (
   write-row-reads.Asked,
   write-row-reads.Learnt,
@@ -179,7 +179,7 @@ write-record-write-list-requires : (t : ℕ) → write-record-lts.Need-write-lis
 ) (write-record-at t) write-record.Post
 write-record-write-list-requires t c κs = search records
 
--- src/lib.rt:72:1
+-- src/lib.rt:64:1
 write-record-same-length-2 : (t : ℕ) → write-record-lts.Need-same-length-2 (
   write-row-reads.Asked,
   write-row-reads.Learnt,
@@ -190,7 +190,7 @@ write-record-same-length-2 : (t : ℕ) → write-record-lts.Need-same-length-2 (
 ) (write-record-at t) write-record.Post
 write-record-same-length-2 t c = search records
 
--- src/lib.rt:72:1
+-- src/lib.rt:64:1
 write-record-returns-2 : (t : ℕ) → write-record-lts.Need-returns-2 (
   write-row-reads.Asked,
   write-row-reads.Learnt,

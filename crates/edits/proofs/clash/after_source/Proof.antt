@@ -18,19 +18,19 @@ Inv-loop lines facts r p o t₀ t = Left (λ k. fresh o (ask lines facts k .afte
 abbrev μ-loop : tie.MeasureT-loop
 μ-loop lines facts r p o t₀ t = TABLES - t
 
--- src/lib.rt:194:5
+-- src/clash.rt:35:5
 loop-holds : tie.Need-loop-holds Inv-loop μ-loop
 loop-holds c = search seeks
 
--- src/lib.rt:195:13
+-- src/clash.rt:36:13
 follower-in-requires : tie.Need-follower-in-requires Inv-loop μ-loop
 follower-in-requires c κs = search seeks
 
--- src/lib.rt:196:12
+-- src/clash.rt:37:12
 fresh-requires : tie.Need-fresh-requires Inv-loop μ-loop
 fresh-requires c κs = search seeks
 
--- src/lib.rt:197:13
+-- src/clash.rt:38:13
 returns : tie.Need-returns Inv-loop μ-loop
 returns c =
     let loop = c .before .before .before .before in
@@ -41,15 +41,15 @@ returns c =
       c .before .before .before .loop-test .taken,
     )
 
--- src/lib.rt:199:9
+-- src/clash.rt:40:9
 add-t : tie.Need-add-t Inv-loop μ-loop
 add-t c = search seeks
 
--- src/lib.rt:194:5
+-- src/clash.rt:35:5
 loop-less : tie.Need-loop-less Inv-loop μ-loop
 loop-less c = search seeks
 
--- src/lib.rt:194:5
+-- src/clash.rt:35:5
 loop-again : tie.Need-loop-again Inv-loop μ-loop
 loop-again c =
     let loop = c .before .before .before .before in
@@ -58,7 +58,7 @@ loop-again c =
     fresh-on v (s .o) _ _ _ (loop .loop .inv) (c .before .before .before .loop-test .taken) (c .before .before .follower-in .ensures)
     (c .before .fresh .ensures) (c .if1 .left)
 
--- src/lib.rt:183:1
+-- src/clash.rt:24:1
 returns-2 : tie.Need-returns-2 Inv-loop μ-loop
 returns-2 c = search seeks
 

@@ -18,19 +18,19 @@ Inv-loop lines facts r s o t₀ t = Left (λ k. fresh o (ask lines facts k .befo
 abbrev μ-loop : tie.MeasureT-loop
 μ-loop lines facts r s o t₀ t = TABLES - t
 
--- src/lib.rt:215:5
+-- src/clash.rt:56:5
 loop-holds : tie.Need-loop-holds Inv-loop μ-loop
 loop-holds c = search seeks
 
--- src/lib.rt:216:13
+-- src/clash.rt:57:13
 forerunner-in-requires : tie.Need-forerunner-in-requires Inv-loop μ-loop
 forerunner-in-requires c κs = search seeks
 
--- src/lib.rt:217:12
+-- src/clash.rt:58:12
 fresh-requires : tie.Need-fresh-requires Inv-loop μ-loop
 fresh-requires c κs = search seeks
 
--- src/lib.rt:218:13
+-- src/clash.rt:59:13
 returns : tie.Need-returns Inv-loop μ-loop
 returns c =
     let loop = c .before .before .before .before in
@@ -41,15 +41,15 @@ returns c =
       c .before .before .before .loop-test .taken,
     )
 
--- src/lib.rt:220:9
+-- src/clash.rt:61:9
 add-t : tie.Need-add-t Inv-loop μ-loop
 add-t c = search seeks
 
--- src/lib.rt:215:5
+-- src/clash.rt:56:5
 loop-less : tie.Need-loop-less Inv-loop μ-loop
 loop-less c = search seeks
 
--- src/lib.rt:215:5
+-- src/clash.rt:56:5
 loop-again : tie.Need-loop-again Inv-loop μ-loop
 loop-again c =
     let loop = c .before .before .before .before in
@@ -58,7 +58,7 @@ loop-again c =
     fresh-on v (s .o) _ _ _ (loop .loop .inv) (c .before .before .before .loop-test .taken) (c .before .before .forerunner-in .ensures)
     (c .before .fresh .ensures) (c .if1 .left)
 
--- src/lib.rt:204:1
+-- src/clash.rt:45:1
 returns-2 : tie.Need-returns-2 Inv-loop μ-loop
 returns-2 c = search seeks
 

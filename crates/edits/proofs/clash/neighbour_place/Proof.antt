@@ -13,31 +13,31 @@ use Rattle.edits.proofs.place.Reads as place-reads
 use Rattle.edits.proofs.smaller.Reads as smaller-reads
 use Rattle.edits.proofs.clash.torn.Reads as torn-reads
 
--- src/lib.rt:326:9
+-- src/clash.rt:182:9
 parent-in-requires : tie.Need-parent-in-requires
 parent-in-requires c κs = search needs
 
--- src/lib.rt:327:9
+-- src/clash.rt:183:9
 torn-requires : tie.Need-torn-requires
 torn-requires c κs = search needs
 
--- src/lib.rt:328:9
+-- src/clash.rt:184:9
 torn-requires-2 : tie.Need-torn-requires-2
 torn-requires-2 c κs = search needs
 
--- src/lib.rt:329:9
+-- src/clash.rt:185:9
 place-requires : tie.Need-place-requires
 place-requires c κs = search needs
 
--- src/lib.rt:330:9
+-- src/clash.rt:186:9
 place-requires-2 : tie.Need-place-requires-2
 place-requires-2 c κs = search needs
 
--- src/lib.rt:331:5
+-- src/clash.rt:187:5
 smaller-requires : tie.Need-smaller-requires
 smaller-requires c κs = search needs
 
--- src/lib.rt:322:1
+-- src/clash.rt:173:1
 returns : tie.Need-returns
 returns c =
     let s = c .before .before .before .before .before .before .args in

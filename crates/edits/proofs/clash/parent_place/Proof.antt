@@ -8,15 +8,15 @@ use Rattle.edits.proofs.clash.parent_place.Lts as lts
 use Rattle.edits.proofs.place.Reads as place-reads
 use Rattle.edits.proofs.clash.two_parents.Reads as two-parents-reads
 
--- src/lib.rt:317:9
+-- src/clash.rt:168:9
 two-parents-requires : tie.Need-two-parents-requires
 two-parents-requires c κs = search needs
 
--- src/lib.rt:318:5
+-- src/clash.rt:169:5
 place-requires : tie.Need-place-requires
 place-requires c κs = search needs
 
--- src/lib.rt:313:1
+-- src/clash.rt:159:1
 returns : tie.Need-returns
 returns c = search ways
 

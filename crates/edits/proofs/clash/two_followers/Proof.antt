@@ -11,27 +11,27 @@ use Rattle.edits.proofs.clash.after_source.Reads as after-source-reads
 use Rattle.edits.proofs.follower_in.Reads as follower-in-reads
 use Rattle.edits.proofs.fresh.Reads as fresh-reads
 
--- src/lib.rt:251:9
+-- src/clash.rt:92:9
 follower-in-requires : tie.Need-follower-in-requires
 follower-in-requires c κs = search needs
 
--- src/lib.rt:252:9
+-- src/clash.rt:93:9
 follower-in-requires-2 : tie.Need-follower-in-requires-2
 follower-in-requires-2 c κs = search needs
 
--- src/lib.rt:253:8
+-- src/clash.rt:94:8
 fresh-requires : tie.Need-fresh-requires
 fresh-requires c κs = search needs
 
--- src/lib.rt:254:13
+-- src/clash.rt:95:13
 after-source-requires : tie.Need-after-source-requires
 after-source-requires c κs = search needs
 
--- src/lib.rt:255:13
+-- src/clash.rt:96:13
 follower-in-requires-3 : tie.Need-follower-in-requires-3
 follower-in-requires-3 c κs = search needs
 
--- src/lib.rt:256:9
+-- src/clash.rt:97:9
 returns : tie.Need-returns
 returns c =
     let asked = c .before .before .before in
@@ -40,7 +40,7 @@ returns c =
     (asked .before .before .follower-in .ensures) (asked .before .follower-in2 .ensures) (asked .fresh .ensures)
     (c .before .before .if1 .taken) (c .before .after-source .ensures .0) (c .follower-in3 .ensures)
 
--- src/lib.rt:241:1
+-- src/clash.rt:82:1
 returns-2 : tie.Need-returns-2
 returns-2 c =
     let asked = c .before in

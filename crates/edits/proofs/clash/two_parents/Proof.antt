@@ -11,23 +11,23 @@ use Rattle.edits.proofs.claims.Reads as claims-reads
 use Rattle.edits.proofs.parent_in.Reads as parent-in-reads
 use Rattle.edits.proofs.clash.parent_source.Reads as parent-source-reads
 
--- src/lib.rt:285:8
+-- src/clash.rt:131:8
 claims-requires : tie.Need-claims-requires
 claims-requires c κs = search needs
 
--- src/lib.rt:286:13
+-- src/clash.rt:132:13
 parent-source-requires : tie.Need-parent-source-requires
 parent-source-requires c κs = search needs
 
--- src/lib.rt:287:13
+-- src/clash.rt:133:13
 parent-in-requires : tie.Need-parent-in-requires
 parent-in-requires c κs = search needs
 
--- src/lib.rt:288:13
+-- src/clash.rt:134:13
 parent-in-requires-2 : tie.Need-parent-in-requires-2
 parent-in-requires-2 c κs = search needs
 
--- src/lib.rt:289:9
+-- src/clash.rt:135:9
 returns : tie.Need-returns
 returns c =
     let s = c .before .before .before .before .before .args in
@@ -35,7 +35,7 @@ returns c =
     (c .before .before .before .if1 .taken) (c .before .before .parent-source .ensures .0) (c .before .parent-in .ensures)
     (c .parent-in2 .ensures)
 
--- src/lib.rt:281:1
+-- src/clash.rt:122:1
 returns-2 : tie.Need-returns-2
 returns-2 c = search ways
 
