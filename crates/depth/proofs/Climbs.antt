@@ -10,12 +10,15 @@ use lib.ListN.{getD, set, length, replicate}
 use lib.Seq.{getD-set-same, getD-set-other}
 use borrow.Author.Needs.{needs}
 use borrow.Author.Tests.{eq-eqb, ne-eqb}
-use Rattle.facts.specs.Memory.{ROOM}
+use Rattle.facts.specs.Memory.{ROOM, PARENT, lineAt, fieldOn}
 use Rattle.depth.specs.Climbing.{upLine, climb, depthOn, greatestOn, Climbs, Noted}
 
 -- ---- steps
 
 module _ (ls fs : List ℕ) where
+  pub up-is : (l parent up : ℕ) → parent ≡ fieldOn fs l PARENT → up ≡ lineAt ls parent → up ≡ upLine ls fs l
+  up-is l parent up e f = f ∙ ap (lineAt ls) e
+
   pub climb-top : (l : ℕ) → l ≡ 0 → 0 ≡ depthOn ls fs l
   unfolding climb
   climb-top l e = rw (eq-eqb l 0 e)

@@ -3,14 +3,14 @@
 use mathlib.Core.Path.{_≡_}
 use mathlib.Core.Bool.{cond}
 use mathlib.Core.List.{List}
-use Prim.Native.Nat.{ℕ, zero, suc, max, _+_, _*_, _<_, _≤_}
+use Prim.Native.Nat.{ℕ, zero, suc, max, _<_, _≤_}
 use lib.Dec.{eqb}
 use lib.ListN.{getD}
-use Rattle.facts.specs.Memory.{ROOM, WIDTH, PARENT, lineAt}
+use Rattle.facts.specs.Memory.{ROOM, PARENT, lineAt, fieldOn}
 
 -- the line of the parent of the record on a line; 0 is the top's
 abbrev pub upLine : List ℕ → List ℕ → ℕ → ℕ
-upLine ls fs l = lineAt ls (getD fs (l * WIDTH + PARENT) 0)
+upLine ls fs l = lineAt ls (fieldOn fs l PARENT)
 
 -- "one more than its parent's, the top having depth 0", as far as so many steps go
 unfoldable pub climb : ℕ → List ℕ → List ℕ → ℕ → ℕ

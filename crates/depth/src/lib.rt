@@ -3,7 +3,7 @@ use facts::FACTS;
 use facts::NUMBERS;
 use facts::PARENT;
 use facts::ROOM;
-use facts::WIDTH;
+use facts::field_on;
 use facts::line_of;
 use facts::wide;
 ghost use mathlib.Core.Path.{_≡_};
@@ -23,7 +23,8 @@ fn up_line(lines: &[u16; NUMBERS], facts: &[u32; FACTS], l: usize) -> usize
     requires { ⌜ Climbs (now lines) (now facts) l ⌝ }
     ensures { λ r. ⌜ r ≡ upLine (now (lines .entry)) (now (facts .entry)) l ⌝ }
 {
-    line_of(lines, facts[l * WIDTH + PARENT])
+    let parent = field_on(facts, l, PARENT);
+    line_of(lines, parent)
 }
 
 // The depth of the record on a line. Depths are noted on the way, so that no line is climbed twice.

@@ -81,6 +81,11 @@ originOf place = place / SPAN / TEXTS
 abbrev pub lineAt : List ℕ → ℕ → ℕ
 lineAt ls n = cond (ltb (getD ls n 0) ROOM) (getD ls n 0) 0
 
+-- a field of a line
+abbrev pub fieldOn : List ℕ → ℕ → ℕ → ℕ
+fieldOn fs l k = getD fs (l * WIDTH + k) 0
+
+-- a field of a record's line
 abbrev pub field : List ℕ → List ℕ → ℕ → ℕ → ℕ
 field ls fs n k = getD fs (lineAt ls n * WIDTH + k) 0
 

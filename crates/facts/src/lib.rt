@@ -5,10 +5,10 @@ use rules::record::Record;
 ghost use mathlib.Core.Path.{_≡_};
 ghost use mathlib.Core.List.{[], _∷_};
 ghost use Prim.Native.Nat.{_+_, _*_, _<_};
-ghost use lib.ListN.{getD, length};
+ghost use lib.ListN.{length};
 ghost use Rattle.facts.specs.Memory.{NUMBERS, ROOM, WIDTH, NUMBER, PARENT, FORERUNNER, FOLLOWER, FIRST, LAST, PLACE, LENGTH};
 ghost use Rattle.facts.specs.Memory.{TABLES, SPAN, TEXTS};
-ghost use Rattle.facts.specs.Memory.{lineAt, field, who, way, laid, putField, addLine, addFacts, opened};
+ghost use Rattle.facts.specs.Memory.{lineAt, fieldOn, field, who, way, laid, putField, addLine, addFacts, opened};
 ghost use Rattle.facts.specs.Asked.{hasIn, listIn, childIn, asked};
 
 // ---- the shape
@@ -125,12 +125,20 @@ pub fn field(lines: &[u16; NUMBERS], facts: &[u32; FACTS], n: u32, k: usize) -> 
     facts[l * WIDTH + k]
 }
 
+// a field of a line
+pub fn field_on(facts: &[u32; FACTS], l: usize, k: usize) -> u32
+    requires { ⌜ (l < ROOM) × (k < WIDTH) ⌝ }
+    ensures { λ r. ⌜ r ≡ fieldOn (now (facts .entry)) l k ⌝ }
+{
+    facts[l * WIDTH + k]
+}
+
 // the number on a line
 pub fn number_on(facts: &[u32; FACTS], l: usize) -> u32
     requires { ⌜ l < ROOM ⌝ }
-    ensures { λ r. ⌜ r ≡ getD (now (facts .entry)) (l * WIDTH + NUMBER) 0 ⌝ }
+    ensures { λ r. ⌜ r ≡ fieldOn (now (facts .entry)) l NUMBER ⌝ }
 {
-    facts[l * WIDTH + NUMBER]
+    field_on(facts, l, NUMBER)
 }
 
 // ---- the questions

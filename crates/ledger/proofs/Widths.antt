@@ -7,18 +7,18 @@ use native.Mathlib.Omega.{arith}
 use native.Mathlib.Numerals.{add-one}
 use borrow.Author.Needs.{needs}
 use Rattle.rules.specs.Written.{width}
-use Rattle.facts.specs.Memory.{ROOM, NUMBER, PARENT, PLACE, LENGTH, originOf}
+use Rattle.facts.specs.Memory.{ROOM, NUMBER, PARENT, PLACE, LENGTH, originOf, fieldOn}
 use Rattle.bytes.proofs.Digits.{width-6}
-use Rattle.ledger.specs.Sums.{onLine, frameLine, ledgerLine, lineBytes, sumTo, totalLength, sumsOf}
+use Rattle.ledger.specs.Sums.{frameLine, ledgerLine, lineBytes, sumTo, totalLength, sumsOf}
 
 -- ---- one line
 
-pub frame-is : (fs : List ℕ) (l n r a b : ℕ) → n ≡ onLine fs l NUMBER → r ≡ onLine fs l PARENT → a ≡ width n → b ≡ width r
+pub frame-is : (fs : List ℕ) (l n r a b : ℕ) → n ≡ fieldOn fs l NUMBER → r ≡ fieldOn fs l PARENT → a ≡ width n → b ≡ width r
     → 3 + a + b ≡ frameLine fs l
 frame-is fs l n r a b e f g h = rw (g, h, e, f)
 
-pub entry-is : (fs : List ℕ) (l n place long a b c : ℕ) → n ≡ onLine fs l NUMBER → place ≡ onLine fs l PLACE
-    → long ≡ onLine fs l LENGTH → a ≡ width n → b ≡ width (originOf place) → c ≡ width long → 3 + a + b + c ≡ ledgerLine fs l
+pub entry-is : (fs : List ℕ) (l n place long a b c : ℕ) → n ≡ fieldOn fs l NUMBER → place ≡ fieldOn fs l PLACE
+    → long ≡ fieldOn fs l LENGTH → a ≡ width n → b ≡ width (originOf place) → c ≡ width long → 3 + a + b + c ≡ ledgerLine fs l
 entry-is fs l n place long a b c e f g x y z = rw (x, y, z, e, f, g)
 
 pub ruleset widths = (frame-is, entry-is, width-6, needs)

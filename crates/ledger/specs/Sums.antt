@@ -1,26 +1,22 @@
 -- The lengths of a table's written form and of its ledger, summed over the lines of memory, in whatever order they stand there. fs is the
--- array of facts, l a line, k a field. Assumes nothing.
+-- array of facts, l a line. Assumes nothing.
 use mathlib.Core.List.{List}
-use Prim.Native.Nat.{ℕ, zero, suc, _+_, _*_}
-use lib.ListN.{getD}
+use Prim.Native.Nat.{ℕ, zero, suc, _+_}
 use Rattle.rules.specs.Written.{width}
-use Rattle.facts.specs.Memory.{WIDTH, NUMBER, PARENT, PLACE, LENGTH, originOf}
+use Rattle.facts.specs.Memory.{NUMBER, PARENT, PLACE, LENGTH, originOf, fieldOn}
 use Rattle.ledger.specs.declared.Sums.{Sums}
-
-abbrev pub onLine : List ℕ → ℕ → ℕ → ℕ
-onLine fs l k = getD fs (l * WIDTH + k) 0
 
 -- "for each record, three and the digits of its number and parent"
 abbrev pub frameLine : List ℕ → ℕ → ℕ
-frameLine fs l = 3 + width (onLine fs l NUMBER) + width (onLine fs l PARENT)
+frameLine fs l = 3 + width (fieldOn fs l NUMBER) + width (fieldOn fs l PARENT)
 
 -- `number␉origin␉bytes` and LF
 abbrev pub ledgerLine : List ℕ → ℕ → ℕ
-ledgerLine fs l = 3 + width (onLine fs l NUMBER) + width (originOf (onLine fs l PLACE)) + width (onLine fs l LENGTH)
+ledgerLine fs l = 3 + width (fieldOn fs l NUMBER) + width (originOf (fieldOn fs l PLACE)) + width (fieldOn fs l LENGTH)
 
 -- the bytes of the content
 abbrev pub lineBytes : List ℕ → ℕ → ℕ
-lineBytes fs l = onLine fs l LENGTH
+lineBytes fs l = fieldOn fs l LENGTH
 
 -- the sum of what each line counts, from the first to that of the last record
 abbrev pub sumTo : (ℕ → ℕ) → ℕ → ℕ

@@ -14,8 +14,8 @@ use facts::PARENT;
 use facts::PLACE;
 use facts::SPAN;
 use facts::TEXTS;
-use facts::WIDTH;
 use facts::field;
+use facts::field_on;
 use rules::record::Record;
 use text::LF;
 ghost use mathlib.Core.Path.{_≡_};
@@ -23,10 +23,10 @@ ghost use Prim.Native.Nat.{_+_, _<_, _≤_};
 ghost use lib.ListN.{length};
 ghost use Rattle.rules.specs.Written.{width as widthOf};
 ghost use Rattle.rules.specs.Ledger.{entryLine};
-ghost use Rattle.facts.specs.Memory.{ROOM, WIDTH};
+ghost use Rattle.facts.specs.Memory.{ROOM};
 ghost use Rattle.bytes.specs.Put.{Put};
 ghost use Rattle.ledger.specs.Entries.{entryAt, lineEnd, totalOf, LedgerReady, LedgerWritten};
-ghost use Rattle.ledger.specs.Sums.{onLine, frameLine, ledgerLine, lineBytes, totalLength, sumsOf};
+ghost use Rattle.ledger.specs.Sums.{frameLine, ledgerLine, lineBytes, totalLength, sumsOf};
 
 // How long the written table and its ledger are, and how many bytes the contents have.
 pub struct Sums {
@@ -36,14 +36,6 @@ pub struct Sums {
 }
 
 // ---- lengths
-
-// a field of a line
-fn on_line(facts: &[u32; FACTS], l: usize, k: usize) -> u32
-    requires { ⌜ (l < ROOM) × (k < WIDTH) ⌝ }
-    ensures { λ r. ⌜ r ≡ onLine (now (facts .entry)) l k ⌝ }
-{
-    facts[l * WIDTH + k]
-}
 
 // A number of 32 bits as a length, with the bound that its type says.
 fn long(x: u32) -> usize
@@ -58,7 +50,7 @@ fn line_bytes(facts: &[u32; FACTS], l: usize) -> usize
     ensures { λ r. ⌜ r ≡ lineBytes (now (facts .entry)) l ⌝ }
     ensures { λ r. ⌜ r < 4294967296 ⌝ }
 {
-    long(on_line(facts, l, LENGTH))
+    long(field_on(facts, l, LENGTH))
 }
 
 // what the line takes in the written table beside its content
@@ -67,8 +59,8 @@ fn frame_line(facts: &[u32; FACTS], l: usize) -> usize
     ensures { λ r. ⌜ r ≡ frameLine (now (facts .entry)) l ⌝ }
     ensures { λ r. ⌜ r ≤ 15 ⌝ }
 {
-    let n = on_line(facts, l, NUMBER);
-    let r = on_line(facts, l, PARENT);
+    let n = field_on(facts, l, NUMBER);
+    let r = field_on(facts, l, PARENT);
     3 + width(n) + width(r)
 }
 
@@ -78,9 +70,9 @@ fn ledger_line(facts: &[u32; FACTS], l: usize) -> usize
     ensures { λ r. ⌜ r ≡ ledgerLine (now (facts .entry)) l ⌝ }
     ensures { λ r. ⌜ r ≤ 21 ⌝ }
 {
-    let n = on_line(facts, l, NUMBER);
-    let place = on_line(facts, l, PLACE);
-    let bytes = on_line(facts, l, LENGTH);
+    let n = field_on(facts, l, NUMBER);
+    let place = field_on(facts, l, PLACE);
+    let bytes = field_on(facts, l, LENGTH);
     3 + width(n) + width(place / SPAN / TEXTS) + width(bytes)
 }
 

@@ -5,12 +5,12 @@ use Rattle.ledger.proofs.frame_line.Statement.{statement}
 use Rattle.ledger.proofs.frame_line.Tie as tie
 
 -- src/lib.rt:70:9
-on-line-requires : tie.Need-on-line-requires
-on-line-requires c κs = search widths
+field-on-requires : tie.Need-field-on-requires
+field-on-requires c κs = search widths
 
 -- src/lib.rt:71:9
-on-line-requires-2 : tie.Need-on-line-requires-2
-on-line-requires-2 c κs = search widths
+field-on-requires-2 : tie.Need-field-on-requires-2
+field-on-requires-2 c κs = search widths
 
 -- src/lib.rt:72:9
 width-requires : tie.Need-width-requires
@@ -36,8 +36,8 @@ pub frame-line-spec : {M : Type 1} → statement M
 frame-line-spec =
     tie.close
     (tie.spec
-    on-line-requires
-    on-line-requires-2
+    field-on-requires
+    field-on-requires-2
     width-requires
     add-result
     width-requires-2

@@ -5,16 +5,16 @@ use Rattle.ledger.proofs.ledger_line.Statement.{statement}
 use Rattle.ledger.proofs.ledger_line.Tie as tie
 
 -- src/lib.rt:81:9
-on-line-requires : tie.Need-on-line-requires
-on-line-requires c κs = search widths
+field-on-requires : tie.Need-field-on-requires
+field-on-requires c κs = search widths
 
 -- src/lib.rt:82:9
-on-line-requires-2 : tie.Need-on-line-requires-2
-on-line-requires-2 c κs = search widths
+field-on-requires-2 : tie.Need-field-on-requires-2
+field-on-requires-2 c κs = search widths
 
 -- src/lib.rt:83:9
-on-line-requires-3 : tie.Need-on-line-requires-3
-on-line-requires-3 c κs = search widths
+field-on-requires-3 : tie.Need-field-on-requires-3
+field-on-requires-3 c κs = search widths
 
 -- src/lib.rt:84:9
 width-requires : tie.Need-width-requires
@@ -48,9 +48,9 @@ pub ledger-line-spec : {M : Type 1} → statement M
 ledger-line-spec =
     tie.close
     (tie.spec
-    on-line-requires
-    on-line-requires-2
-    on-line-requires-3
+    field-on-requires
+    field-on-requires-2
+    field-on-requires-3
     width-requires
     add-result
     width-requires-2
