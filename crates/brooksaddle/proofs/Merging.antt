@@ -19,7 +19,7 @@ use Rattle.facts.specs.Memory.{TABLES, PLACE, SPAN, field, noLines, noFacts}
 use Rattle.table.specs.declared.Refusal.{Refusal}
 use Rattle.table.specs.Read.{Unread}
 use Rattle.table.specs.All.{AllRead, ReadsAll}
-use Rattle.judge.specs.Judged.{Before}
+use Rattle.judge.specs.Judged.{InMemory}
 use Rattle.pack.specs.Packed.{Ends}
 use Rattle.merge.specs.Merging.{Ready, MergesTables}
 use Rattle.brooksaddle.proofs.Told.{read-stored, read-low}
@@ -97,8 +97,8 @@ module _ (old first second : List ℕ) (lines facts : List (List ℕ)) (counts :
     verdict-at : (k : ℕ) → k < TABLES → verdict (getD texts k []) ≡ readable (getD (base ∷ branches) k [])
     verdict-at k h = read .is k h ∙ ap readable (table-at k)
 
-    before : Before texts lines facts counts base branches
-    before = record {
+    in-memory : InMemory texts lines facts counts base branches
+    in-memory = record {
       side = record {
         many = omega (arith, read .many, ap length (parted .is));
         stored = λ k h. read-stored (getD texts k []) (getD lines k []) (getD facts k []) _ (read .reads k h)
@@ -118,7 +118,7 @@ module _ (old first second : List ℕ) (lines facts : List (List ℕ)) (counts :
             (verdict-at k h) (x .0) (x .1))
 
     pub merge-ready : Ready (old ∷ first ∷ second ∷ []) lines facts counts
-    merge-ready = record { old = base; branches = branches; before = before }
+    merge-ready = record { old = base; branches = branches; tables = in-memory }
 
     pub merge-read : (table ledger : List ℕ) (m : Merged) (table′ ledger′ : List ℕ)
         → MergesTables (old ∷ first ∷ second ∷ []) lines facts counts table ledger m table′ ledger′
@@ -128,4 +128,4 @@ module _ (old first second : List ℕ) (lines facts : List (List ℕ)) (counts :
         ends table ledger m table′ ledger′ (mergeTables base branches (length table) (length ledger))
         (outcome (length table) (length ledger) ∙ read .all (onward (length table) (length ledger))
         ∙ ap (onward (length table) (length ledger)) (parted .is))
-        (d .all base branches before)
+        (d .all base branches in-memory)

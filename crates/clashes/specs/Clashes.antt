@@ -1,5 +1,5 @@
--- 21, 22 and 23: the least place of each, over all lines of all branches. q k and w k are asked of table k, table 0 being old, `number k i`
--- is the number on its line i, `counts k` how many records it has; n is a record. Assumes nothing.
+-- 21, 22 and 23: the least place of each, over all lines of all branches. q k and w k are asked of table k, table 0 being old; `counts` has
+-- how many records each table has, n is a record, i a line. Assumes nothing.
 use mathlib.Core.List.{List}
 use Prim.Native.Nat.{ℕ, zero, suc, min}
 use lib.ListN.{getD}

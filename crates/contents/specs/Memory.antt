@@ -1,13 +1,14 @@
--- What the tables in memory tell of contents, and where the kept content of a record lies. text is a table's text, ls and fs are its two
--- arrays; texts, lines and facts are those of all tables. n is a record, k a table. Assumes nothing.
+-- What the tables in memory tell of contents, and where the kept content of a record lies. text is a table's text; texts, lines and
+-- facts are those of all tables. n is a record, k a table. Assumes nothing.
 use mathlib.Core.Bool.{cond}
 use mathlib.Core.List.{List, []}
 use Prim.Native.Nat.{ℕ, _+_, _*_}
 use lib.Dec.{leb}
 use lib.ListN.{length, getD, take, drop}
 use Rattle.rules.specs.Line.{Content}
-use Rattle.facts.specs.Memory.{PLACE, LENGTH, SPAN, TEXTS, startOf, field}
+use Rattle.facts.specs.Memory.{PLACE, LENGTH, SPAN, TEXTS, startOf}
 use Rattle.facts.specs.Asked.{hasIn}
+use Rattle.edits.specs.Memory.{fieldIn}
 use Rattle.contents.specs.Contents.{Told, contentSource, contentOrigin}
 
 -- so many bytes from a place on; none, if they do not all lie in the text
@@ -18,8 +19,7 @@ abbrev pub tell : List (List ℕ) → List (List ℕ) → List (List ℕ) → �
 tell texts lines facts k =
     record {
       has = hasIn (getD lines k []);
-      content = λ n. cut (getD texts k [])
-          (field (getD lines k []) (getD facts k []) n PLACE) (field (getD lines k []) (getD facts k []) n LENGTH);
+      content = λ n. cut (getD texts k []) (fieldIn lines facts k n PLACE) (fieldIn lines facts k n LENGTH);
     }
 
 module _ (texts lines facts : List (List ℕ)) where
@@ -30,7 +30,7 @@ module _ (texts lines facts : List (List ℕ)) where
   abbrev pub keptPlace : ℕ → ℕ
   keptPlace n =
       (contentOrigin (tell texts lines facts) n * TEXTS + sourceOf n) * SPAN
-      + startOf (field (getD lines (sourceOf n) []) (getD facts (sourceOf n) []) n PLACE)
+      + startOf (fieldIn lines facts (sourceOf n) n PLACE)
 
   abbrev pub keptLength : ℕ → ℕ
-  keptLength n = field (getD lines (sourceOf n) []) (getD facts (sourceOf n) []) n LENGTH
+  keptLength n = fieldIn lines facts (sourceOf n) n LENGTH

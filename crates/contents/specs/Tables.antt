@@ -7,7 +7,8 @@ use lib.ListN.{length, getD}
 use Rattle.rules.specs.Lists.{_∈_}
 use Rattle.rules.specs.Line.{Row}
 use Rattle.rules.specs.Table.{numbers}
-use Rattle.facts.specs.Memory.{TABLES, BRANCHES, PLACE, SPAN, field}
+use Rattle.facts.specs.Memory.{TABLES, BRANCHES, PLACE, SPAN}
+use Rattle.edits.specs.Memory.{fieldIn}
 use Rattle.write.specs.Stored.{Stored}
 
 -- each has its own text
@@ -17,4 +18,4 @@ pub record SideBySide (texts lines facts : List (List ℕ)) (old : List Row) (br
       → Stored (getD texts k [] ∷ []) (getD lines k []) (getD facts k []) (getD (old ∷ branches) k [])
   -- as a table just read has them
   pub low : (k : ℕ) → k < TABLES → (n : ℕ) → n ∈ numbers (getD (old ∷ branches) k [])
-      → field (getD lines k []) (getD facts k []) n PLACE < SPAN
+      → fieldIn lines facts k n PLACE < SPAN

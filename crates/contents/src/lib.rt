@@ -12,11 +12,12 @@ use facts::TEXTS;
 use facts::field;
 ghost use mathlib.Core.Path.{_≡_};
 ghost use mathlib.Core.Bool.{_&&_};
-ghost use mathlib.Core.List.{[], map};
+ghost use mathlib.Core.List.{map};
 ghost use Prim.Native.Nat.{_<_, _≤_};
-ghost use lib.ListN.{length, getD};
+ghost use lib.ListN.{length};
 ghost use Rattle.rules.specs.Facts.{sameContent};
 ghost use Rattle.facts.specs.Memory.{TABLES, WIDTH, field};
+ghost use Rattle.edits.specs.Memory.{fieldIn};
 ghost use Rattle.contents.specs.Contents.{freshContent, twoContents, contentPlace, contentOrigin};
 ghost use Rattle.contents.specs.Memory.{cut, tell, sourceOf, keptPlace, keptLength};
 
@@ -60,7 +61,7 @@ fn field_in(
     i: usize,
 ) -> u32
     requires { ⌜ (t < TABLES) × (i < WIDTH) ⌝ }
-    ensures { λ z. ⌜ z ≡ field (getD (now (lines .entry)) t []) (getD (now (facts .entry)) t []) n i ⌝ }
+    ensures { λ z. ⌜ z ≡ fieldIn (now (lines .entry)) (now (facts .entry)) t n i ⌝ }
 {
     field(&lines[t], &facts[t], n, i)
 }

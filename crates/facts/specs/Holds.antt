@@ -2,15 +2,15 @@
 -- fs are the two arrays, n is a record, r a parent, p the one before. Assumes nothing.
 use mathlib.Core.Path.{_≡_}
 use mathlib.Core.List.{List, [], _∷_}
-use Prim.Native.Nat.{ℕ, _+_, _*_, _<_, _≤_}
-use lib.ListN.{getD, length}
+use Prim.Native.Nat.{ℕ, _<_, _≤_}
+use lib.ListN.{length}
 use Rattle.rules.specs.Lists.{_∈_}
 use Rattle.rules.specs.Marks.{TOP, START, END}
 use Rattle.rules.specs.Line.{Row}
 use Rattle.rules.specs.Table.{numbers}
 use Rattle.rules.specs.Tree.{childNumbers}
 use Rattle.rules.specs.declared.answers.Part.{Part}
-use Rattle.facts.specs.Memory.{WIDTH, NUMBER, PARENT, FORERUNNER, LAST, PLACE, LENGTH, lineAt, field, who, way}
+use Rattle.facts.specs.Memory.{NUMBER, PARENT, FORERUNNER, LAST, PLACE, LENGTH, lineAt, field, who, way, fieldOn}
 
 -- the children of r from p on hang together, both ways, up to the end
 abbrev pub Strung : (ℕ → ℕ → ℕ) → ℕ → ℕ → List ℕ → Type 0
@@ -24,7 +24,7 @@ pub record Holds (ls fs : List ℕ) (t : List Row) : Type 0 where
   pub known : (n : ℕ) → n ∈ numbers t → 0 < lineAt ls n
   pub only : (n : ℕ) → 0 < lineAt ls n → n ∈ numbers t
   pub few : (n : ℕ) → lineAt ls n ≤ length t
-  pub lined : (l : ℕ) → l ≤ length t → lineAt ls (getD fs (l * WIDTH + NUMBER) 0) ≡ l
+  pub lined : (l : ℕ) → l ≤ length t → lineAt ls (fieldOn fs l NUMBER) ≡ l
   -- a parent stands on an earlier line
   pub earlier : (n : ℕ) → n ∈ numbers t → lineAt ls (field ls fs n PARENT) < lineAt ls n
 

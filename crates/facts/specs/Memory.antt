@@ -87,7 +87,7 @@ fieldOn fs l k = getD fs (l * WIDTH + k) 0
 
 -- a field of a record's line
 abbrev pub field : List ℕ → List ℕ → ℕ → ℕ → ℕ
-field ls fs n k = getD fs (lineAt ls n * WIDTH + k) 0
+field ls fs n k = fieldOn fs (lineAt ls n) k
 
 -- START's follower is a field of the parent, a record's its own
 abbrev pub who : ℕ → ℕ → ℕ

@@ -39,14 +39,13 @@ use Rattle.contents.proofs.Tables.{tell-views, kept-origin}
 use Rattle.clashes.specs.declared.Clashes.{Clashes}
 use Rattle.clashes.specs.Clashes.{allClashes}
 use Rattle.clashes.proofs.Finding.{content-least, parent-least, neighbour-least, content-low, parent-low, neighbour-low}
-use Rattle.merged.specs.Laying.{LaidDown}
-use Rattle.merged.specs.Laying.{Result as Laid}
+use Rattle.merged.specs.Laying.{LaidDown, Result as Laid}
 use Rattle.merged.specs.Memory.{keptNext, keptPart}
 use Rattle.merged.proofs.Merging.{branchNumbers, branch-has, kept-steps, tree-merged, broken-least, broken-low, merged-stored}
 use Rattle.lost.specs.Lost.{allLost}
 use Rattle.lost.proofs.Finding.{lost-least, lost-low}
 use Rattle.judge.specs.declared.Judged.{Judged}
-use Rattle.judge.specs.Judged.{told, firstClash, MergedIn, Before, Judges}
+use Rattle.judge.specs.Judged.{told, firstClash, MergedIn, InMemory, Judges}
 
 map-same : {A B : Type 0} (f g : A → B) (xs : List A) → ((x : A) → x ∈ xs → f x ≡ g x) → map f xs ≡ map g xs
 map-same f g [] h = refl
@@ -110,7 +109,7 @@ refused-few code place z e = omega (arith, ap (λ (j : Judged). j .count) e)
 
 module _ (texts lines facts : List (List ℕ)) (counts : List ℕ) (long : length texts ≡ TABLES) (c : Clashes)
     (ce : c ≡ allClashes texts lines facts counts) where
-  module _ (old : List Row) (branches : List (List Row)) (b : Before texts lines facts counts old branches) where
+  module _ (old : List Row) (branches : List (List Row)) (b : InMemory texts lines facts counts old branches) where
     abbrev O : Facts
     O = factsOf old
 

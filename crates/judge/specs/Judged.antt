@@ -42,14 +42,14 @@ pub record MergedIn (texts : List (List ℕ)) (ls fs : List ℕ) (old : List Row
   pub counted : count ≡ length t
   pub entries : entriesIn ls fs t ≡ entriesOf old branches (treeOf t)
 
--- the tables that are judged
-pub record Before (texts lines facts : List (List ℕ)) (counts : List ℕ) (old : List Row) (branches : List (List Row)) : Type 0 where
+-- the tables that are judged lie in memory, each within the limit of lines
+pub record InMemory (texts lines facts : List (List ℕ)) (counts : List ℕ) (old : List Row) (branches : List (List Row)) : Type 0 where
   pub side : SideBySide texts lines facts old branches
   pub counted : (k : ℕ) → k < TABLES → getD counts k 0 ≡ length (getD (old ∷ branches) k [])
   pub few : (k : ℕ) → k < TABLES → length (getD (old ∷ branches) k []) ≤ LINES
 
 pub record Judges (texts lines facts : List (List ℕ)) (counts ls fs : List ℕ) (answer : Judged) : Type 0 where
-  pub clash : (old : List Row) (branches : List (List Row)) → Before texts lines facts counts old branches → (answer .code ≡ accepted → ⊥)
+  pub clash : (old : List Row) (branches : List (List Row)) → InMemory texts lines facts counts old branches → (answer .code ≡ accepted → ⊥)
       → merge (factsOf old) (map factsOf branches) ≡ refused (answer .code) (answer .place)
-  pub tree : (old : List Row) (branches : List (List Row)) → Before texts lines facts counts old branches → answer .code ≡ accepted
+  pub tree : (old : List Row) (branches : List (List Row)) → InMemory texts lines facts counts old branches → answer .code ≡ accepted
       → MergedIn texts ls fs old branches (answer .count)

@@ -29,7 +29,7 @@ lostContent w has k n = place (not (has n) && freshContent w k n) n
 abbrev pub lostPlace : (ℕ → Asked) → (ℕ → Told) → Asked → ℕ → ℕ → ℕ
 lostPlace q w m k n = min (lostPosition q m k n) (lostContent w (m .has) k n)
 
--- ---- in memory: ls and fs are the arrays of the merged table, `number k i` the number on line i of branch k
+-- ---- in memory: ls and fs are the arrays of the merged table, `counts` has how many records each table has
 
 module _ (texts lines facts : List (List ℕ)) (ls fs : List ℕ) where
   -- on line i of branch k

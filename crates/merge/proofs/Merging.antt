@@ -16,7 +16,7 @@ use Rattle.rules.specs.Calls.{Outcome, clash, told, packed, judged, mergeTables
 use Rattle.rules.specs.declared.answers.Merged.{Merged}
 use Rattle.facts.specs.Memory.{ROOM, TABLES}
 use Rattle.judge.specs.declared.Judged.{Judged}
-use Rattle.judge.specs.Judged.{Before, Judges}
+use Rattle.judge.specs.Judged.{InMemory, Judges}
 use Rattle.pack.specs.Packed.{PackReady, Ends, Packs}
 use Rattle.merge.specs.Merging.{Ready, MergesTables}
 
@@ -38,7 +38,7 @@ outcome-merged old branches tableRoom ledgerRoom f e =
 module _ (texts lines facts : List (List ℕ)) (counts : List ℕ) where
   -- there is room for the lines of every table
   pub ready-few : Ready texts lines facts counts → (k : ℕ) → k < TABLES → getD counts k 0 < ROOM
-  ready-few r k h = omega (arith, r .before .counted k h, r .before .few k h)
+  ready-few r k h = omega (arith, r .tables .counted k h, r .tables .few k h)
 
   module _ (ls fs : List ℕ) (z : Judged) (j : Judges texts lines facts counts ls fs z) where
     -- ---- a clash
@@ -47,7 +47,7 @@ module _ (texts lines facts : List (List ℕ)) (counts : List ℕ) where
         → m ≡ told code 0 place 0 0 → MergesTables texts lines facts counts table ledger m table ledger
     merge-refused table ledger code place m ec ep h e = record { all = go }
       where
-        go : (old : List Row) (branches : List (List Row)) → Before texts lines facts counts old branches
+        go : (old : List Row) (branches : List (List Row)) → InMemory texts lines facts counts old branches
             → Ends (mergeTables old branches (length table) (length ledger)) table ledger m table ledger
         go old branches b =
             let o =
@@ -63,14 +63,14 @@ module _ (texts lines facts : List (List ℕ)) (counts : List ℕ) where
     module _ (passed : z .code ≡ 0) (few : z .count < ROOM) where
       pub pack-ready : Ready texts lines facts counts → PackReady texts ls fs (z .count)
       pack-ready r =
-          let m = j .tree (r .old) (r .branches) (r .before) passed in
+          let m = j .tree (r .old) (r .branches) (r .tables) passed in
           record { t = m .t; stored = m .stored; counted = m .counted; few = few }
 
       pub merge-packed : (table ledger : List ℕ) (m : Merged) (table′ ledger′ : List ℕ)
           → Packs texts ls fs (z .count) table ledger m table′ ledger′ → MergesTables texts lines facts counts table ledger m table′ ledger′
       merge-packed table ledger m table′ ledger′ p = record { all = go }
         where
-          go : (old : List Row) (branches : List (List Row)) → Before texts lines facts counts old branches
+          go : (old : List Row) (branches : List (List Row)) → InMemory texts lines facts counts old branches
               → Ends (mergeTables old branches (length table) (length ledger)) table ledger m table′ ledger′
           go old branches b =
               let w = j .tree old branches b passed in

@@ -6,17 +6,17 @@ use lib.ListN.{length}
 use Rattle.rules.specs.Line.{Row}
 use Rattle.rules.specs.Calls.{mergeTables}
 use Rattle.rules.specs.declared.answers.Merged.{Merged}
-use Rattle.judge.specs.Judged.{Before}
+use Rattle.judge.specs.Judged.{InMemory}
 use Rattle.pack.specs.Packed.{Ends}
 
 -- some tables were read
 pub record Ready (texts lines facts : List (List ℕ)) (counts : List ℕ) : Type 0 where
   pub old : List Row
   pub branches : List (List Row)
-  pub before : Before texts lines facts counts old branches
+  pub tables : InMemory texts lines facts counts old branches
 
 pub record MergesTables
     (texts lines facts : List (List ℕ)) (counts table ledger : List ℕ) (answer : Merged) (table′ ledger′ : List ℕ)
     : Type 0 where
-  pub all : (old : List Row) (branches : List (List Row)) → Before texts lines facts counts old branches
+  pub all : (old : List Row) (branches : List (List Row)) → InMemory texts lines facts counts old branches
       → Ends (mergeTables old branches (length table) (length ledger)) table ledger answer table′ ledger′

@@ -5,9 +5,9 @@ use mathlib.Core.Path.{_≡_}
 use mathlib.Core.Logic.{_⊎_}
 use mathlib.Core.Bool.{not}
 use mathlib.Core.List.{List, [], _∷_, map}
-use Prim.Native.Nat.{ℕ, _+_, _*_, _<_, _≤_, min}
+use Prim.Native.Nat.{ℕ, _+_, _<_, _≤_, min}
 use lib.Dec.{T, eqb}
-use lib.ListN.{getD, length}
+use lib.ListN.{length}
 use Rattle.rules.specs.Lists.{_∈_}
 use Rattle.rules.specs.Marks.{TOP, START, END, isRecord}
 use Rattle.rules.specs.Text.{last}
@@ -20,7 +20,7 @@ use Rattle.rules.specs.Demands.{Readable}
 use Rattle.rules.specs.declared.answers.Part.{Part}
 use Rattle.trees.proofs.Kept.{Coherent}
 use Rattle.trees.proofs.LineByLine.{Open}
-use Rattle.facts.specs.Memory.{ROOM, WIDTH, NUMBER, lineAt}
+use Rattle.facts.specs.Memory.{ROOM, NUMBER, lineAt, fieldOn}
 use Rattle.facts.specs.Holds.{Holds, partAt}
 use Rattle.edits.specs.Least.{NONE, place, leastOr}
 
@@ -47,7 +47,7 @@ pub record Spread (nx : ℕ → ℕ → ℕ) (part : ℕ → Part) (known : List
   pub steps : (a : PositionFact) → Open rows a → nx (a .parent) (a .before) ≡ a .after
   pub done : (r : ℕ) → r ∈ TOP ∷ numbers rows → lineAt ls r < i → T (isRecord (nx r (last START (childNumbers r rows)))) → ⊥
   pub later : (r : ℕ) → r ∈ TOP ∷ numbers rows → i < lineAt ls r → childNumbers r rows ≡ []
-  pub at : i ≤ count → p ≡ last START (childNumbers (getD fs (i * WIDTH + NUMBER) 0) rows)
+  pub at : i ≤ count → p ≡ last START (childNumbers (fieldOn fs i NUMBER) rows)
   pub filled : (x : Row) → x ∈ rows → x .content ≡ ct (x .number)
   pub placed : (n : ℕ) → n ∈ numbers rows → partAt ls fs n ≡ part n
   pub within : (n : ℕ) → n ∈ numbers rows → n ∈ known
@@ -57,7 +57,7 @@ pub record Spread (nx : ℕ → ℕ → ℕ) (part : ℕ → Part) (known : List
 -- the list of the record r on line i was laid down; s is what ends it: END, or something else if it is broken
 pub record Listed (nx : ℕ → ℕ → ℕ) (part : ℕ → Part) (ls fs ls′ fs′ : List ℕ) (i r count count′ s : ℕ) : Type 0 where
   pub laid : (kept : List PositionFact) (known : List ℕ) → Steps nx kept known → (ct : ℕ → Content) (broken : ℕ)
-      → Spread nx part known ct ls fs i START count broken → i ≤ count → r ≡ getD fs (i * WIDTH + NUMBER) 0
+      → Spread nx part known ct ls fs i START count broken → i ≤ count → r ≡ fieldOn fs i NUMBER
       → Spread nx part known ct ls′ fs′ (i + 1) START count′ (min broken (place (not (eqb s END)) r))
 
 -- the tree along the followers of some facts is a table in memory, whatever its contents are, and its least broken list is known
