@@ -1,6 +1,6 @@
 // Document 01's cases of check and content, run: its limits, and each code from 0 to 10. Standard input has the cases one after
-// another, each ended by byte 255. For each case one line has the four numbers of check, and two lines the contents of records 1 and
-// 65,535.
+// another, each ended by byte 255. For each case one line has the four numbers of check, and three lines the contents of records 1, 65,535
+// and 65,536, which no table has.
 use brooksaddle::check;
 use brooksaddle::content;
 use cases::part_end;
@@ -18,6 +18,7 @@ fn tell(text: &[u8]) {
     print(answer.depth as u64, b"\n");
     print_line(content(text, 1));
     print_line(content(text, 65535));
+    print_line(content(text, 65536));
 }
 
 fn tell_all(cases: &[u8]) {

@@ -20,7 +20,7 @@ ghost use Prim.Native.Nat.{_≤_};
 ghost use lib.ListN.{length};
 
 // Holds all cases.
-const CASES: usize = 262144;
+const CASES: usize = 393216;
 
 // The line of a call: its five numbers, and for each buffer how many of its bytes are not as expected.
 fn print_answer(

@@ -9,7 +9,7 @@ use std::path::PathBuf;
 const END_OF_PART: u8 = 255;
 
 /// Whose contents `cases_check` asks for.
-const ASKED: [u32; 2] = [1, 65_535];
+const ASKED: [u32; 3] = [1, 65_535, 65_536];
 
 /// How many bytes each buffer of `cases_tidy` and `cases_merge` has.
 const ROOM: usize = 32_776;
