@@ -121,8 +121,8 @@ pub fn sum_lines(facts: &[u32; FACTS], count: usize) -> Sums
 
 // ---- bytes
 
-// The two numbers that a line ends with.
-fn write_end(a: u32, b: u32, out: &mut [u8], at: usize) -> usize
+// The two numbers that a line ends with, and its LF.
+pub fn write_end(a: u32, b: u32, out: &mut [u8], at: usize) -> usize
     requires { ⌜ at + (2 + widthOf a + widthOf b) ≤ length (now out) ⌝ }
     ensures { λ z. ⌜ Put (now (out .entry)) (now (out .exit)) at z (lineEnd a b) ⌝ }
 {

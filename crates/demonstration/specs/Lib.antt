@@ -1,0 +1,2 @@
+-- The demonstration's output.
+pub mod Printed
