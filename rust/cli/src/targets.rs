@@ -85,14 +85,14 @@ pub fn say(words: &str) -> Result<(), End> {
 }
 
 /// Writes every result, the table before its ledger. No file is changed before
-/// all bytes of all results are written; then files are put in place from the
-/// last to the first, so that no new table stands without its ledger.
+/// all bytes of all results are written; then the ledger is put in place before
+/// the table, so that no new table stands without its ledger.
 pub fn write(results: &[(&Target, &[u8])]) -> Result<(), End> {
     let mut temporaries = Vec::new();
     let mut others = Vec::new();
     for (target, bytes) in results {
         match target.prepared(bytes) {
-            Ok(Some(temporary)) => temporaries.push((target, temporary)),
+            Ok(Some(temporary)) => temporaries.push((*target, temporary)),
             Ok(None) => others.push((target, bytes)),
             Err(reason) => return Err(target.trouble(&reason)),
         }
@@ -101,6 +101,11 @@ pub fn write(results: &[(&Target, &[u8])]) -> Result<(), End> {
         let written = target.write_through(bytes);
         written.map_err(|reason| target.trouble(&reason))?;
     }
+    put_in_place(temporaries)
+}
+
+/// From the last to the first. Those behind a trouble stay as they were.
+fn put_in_place(temporaries: Vec<(&Target, Temporary)>) -> Result<(), End> {
     for (target, temporary) in temporaries.into_iter().rev() {
         let placed = temporary.put_in_place();
         placed.map_err(|reason| target.trouble(&reason))?;
@@ -138,6 +143,7 @@ fn full_name(file: &OsString) -> Option<PathBuf> {
 #[cfg(test)]
 mod tests {
     use super::*;
+    use std::{env, process};
 
     fn target(name: &str) -> Target {
         Target::from(OsString::from(name))
@@ -164,5 +170,30 @@ mod tests {
         assert_eq!(target("-"), Target::StandardOutput);
         assert!(!target("-").is_same_file(&target("-")));
         assert!(!target("-").is_same_file(&target("new.table")));
+    }
+
+    /// What stands in a folder when table and ledger are whole beside their
+    /// targets, but one of these can't be replaced.
+    fn left_when_barred(barred: &str) -> Vec<String> {
+        let folder = env::temp_dir().join(format!("brooksaddle-{}-{barred}", process::id()));
+        fs::create_dir(&folder).unwrap();
+        let targets = ["table", "ledger"].map(|name| Target::File(folder.join(name).into()));
+        let whole = |target: &Target| target.prepared(b"x").unwrap().unwrap();
+        let temporaries = targets.iter().map(|target| (target, whole(target)));
+        let temporaries = temporaries.collect();
+        fs::create_dir(folder.join(barred)).unwrap();
+        assert!(put_in_place(temporaries).is_err());
+        let entries = fs::read_dir(&folder).unwrap();
+        let name = |entry: fs::DirEntry| entry.file_name().into_string().unwrap();
+        let mut left: Vec<String> = entries.map(|entry| name(entry.unwrap())).collect();
+        left.sort();
+        fs::remove_dir_all(&folder).unwrap();
+        left
+    }
+
+    #[test]
+    fn no_new_table_stands_without_its_ledger() {
+        assert_eq!(left_when_barred("ledger"), ["ledger"]);
+        assert_eq!(left_when_barred("table"), ["ledger", "table"]);
     }
 }

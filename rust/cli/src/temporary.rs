@@ -65,7 +65,7 @@ impl Drop for Temporary {
 }
 
 fn created_beside(target: &Path) -> io::Result<(File, PathBuf)> {
-    let name = target.file_name().ok_or(ErrorKind::InvalidInput)?;
+    let name = name_of(target).ok_or(ErrorKind::IsADirectory)?;
     let mut left = MOST_NAMES;
     loop {
         let path = folder_of(target).join(temporary_name(name, MOST_NAMES - left));
@@ -76,6 +76,12 @@ fn created_beside(target: &Path) -> io::Result<(File, PathBuf)> {
             Ok(file) => return Ok((file, path)),
         }
     }
+}
+
+/// The name of the file in its folder; none if it is written as a folder's.
+fn name_of(file: &Path) -> Option<&OsStr> {
+    let ends_so = |name: &&OsStr| file.as_os_str().as_bytes().ends_with(name.as_bytes());
+    file.file_name().filter(ends_so)
 }
 
 fn temporary_name(name: &OsStr, attempt: u32) -> OsString {
@@ -105,6 +111,16 @@ mod tests {
         assert_eq!(name, OsString::from(expected));
         let long = OsString::from("x".repeat(255));
         assert!(temporary_name(&long, 99).len() <= 255);
+    }
+
+    #[test]
+    fn a_folder_has_no_name_for_it() {
+        let name = Some(OsStr::new("new.table"));
+        assert_eq!(name_of(Path::new("new.table")), name);
+        assert_eq!(name_of(Path::new("a/new.table")), name);
+        for folder in ["a/", "a/.", "a/..", "/", ".", ""] {
+            assert_eq!(name_of(Path::new(folder)), None, "{folder}");
+        }
     }
 
     #[test]
