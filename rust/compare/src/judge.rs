@@ -1,5 +1,6 @@
 //! Runs both programs over a text and says how their answers differ.
 
+use crate::calls::Calls;
 use crate::case::{Answer, Case};
 use crate::lent::Held;
 use crate::met::{Codes, Given};
@@ -13,14 +14,14 @@ const SHOWN_BYTES: usize = 400;
 impl Judged for Case {
     const NAMED: &'static str = "texts";
 
-    fn judge(&self, rooms: Rooms, random: &mut Random) -> Result<Given, String> {
+    fn judge(&self, calls: &dyn Calls, rooms: Rooms, random: &mut Random) -> Result<Given, String> {
         let held = Held::new(&self.text, random);
         let text = held.text();
-        let check = judge_check(text, self.expected)?;
+        let check = judge_check(calls, text, self.expected)?;
         let numbers = numbers_to_ask(text, random);
-        judge_content_places(text, &numbers)?;
-        judge_content(text, numbers[0])?;
-        let tidy = judge_tidy(text, self, rooms, random)?;
+        judge_content_places(calls, text, &numbers)?;
+        judge_content(calls, text, numbers[0])?;
+        let tidy = judge_tidy(calls, text, self, rooms, random)?;
         judge_text(text, &self.text)?;
         Ok(Given {
             check,
@@ -38,8 +39,8 @@ pub fn judge_text(text: &[u8], before: &[u8]) -> Result<(), String> {
     Err("the text was changed\n".to_string() + &shown(before))
 }
 
-fn judge_check(text: &[u8], expected: Option<Answer>) -> Result<Codes, String> {
-    let proved = proved_answer(bridge::check(text));
+fn judge_check(calls: &dyn Calls, text: &[u8], expected: Option<Answer>) -> Result<Codes, String> {
+    let proved = proved_answer(calls.check(text));
     let second = second_answer(second::check(text));
     if proved == second && expected.is_none_or(|expected| expected == second) {
         return Ok(Codes::only(second.code));
@@ -70,10 +71,10 @@ fn second_answer(checked: second::Checked) -> Answer {
 }
 
 /// The second program's table is read once for all the numbers.
-fn judge_content_places(text: &[u8], numbers: &[u32]) -> Result<(), String> {
+fn judge_content_places(calls: &dyn Calls, text: &[u8], numbers: &[u32]) -> Result<(), String> {
     let table = second::Table::read(text).ok();
     for &number in numbers {
-        let proved = bridge::content_place(text, number);
+        let proved = calls.content_place(text, number);
         let second = table
             .as_ref()
             .map_or(second::Part::default(), |table| table.content_place(number));
@@ -87,8 +88,8 @@ fn judge_content_places(text: &[u8], numbers: &[u32]) -> Result<(), String> {
 
 /// The part handed back is the caller's own bytes, at the place told. Asked
 /// after `judge_content_places`, so the part is known to lie in the text.
-fn judge_content(text: &[u8], number: u32) -> Result<(), String> {
-    let proved = bridge::content(text, number);
+fn judge_content(calls: &dyn Calls, text: &[u8], number: u32) -> Result<(), String> {
+    let proved = calls.content(text, number);
     let second = second::content(text, number);
     if proved.as_ptr_range() == second.as_ptr_range() {
         return Ok(());

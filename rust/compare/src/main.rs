@@ -10,22 +10,8 @@
 
 #![forbid(unsafe_code)]
 
-mod case;
-mod judge;
-mod lent;
-mod lines;
-mod merging;
-mod met;
-mod parts;
-mod random;
-mod run;
-mod spoil;
-mod tables;
-mod tidying;
-mod trees;
-
-use met::{Met, LEAST_OF_EACH_CODE};
-use run::{met_by_all, run_all, Outcome};
+use compare::met::{Met, LEAST_OF_EACH_CODE};
+use compare::run::{met_by_all, run_all, Outcome};
 use std::process::ExitCode;
 
 const SEED: u64 = 2004;

@@ -1,5 +1,6 @@
 //! Runs the parts and counts what they met.
 
+use crate::calls::{Calls, Library};
 use crate::met::{Given, Met};
 use crate::parts::{Part, Source, MERGE_PARTS, PARTS};
 use crate::random::Random;
@@ -11,8 +12,9 @@ pub trait Judged: Clone + Sync {
     /// What several of them are called.
     const NAMED: &'static str;
 
-    /// The codes both programs give, or what is different.
-    fn judge(&self, rooms: Rooms, random: &mut Random) -> Result<Given, String>;
+    /// The codes that the calls and the second program give, or what is
+    /// different.
+    fn judge(&self, calls: &dyn Calls, rooms: Rooms, random: &mut Random) -> Result<Given, String>;
 }
 
 /// However few texts are wanted, no part may pass without any.
@@ -121,7 +123,7 @@ fn run_part<C: Judged>(
         for index in (first..count).step_by(threads) {
             let mut random = Random::for_text(seed, place, index);
             let case = make(index, &mut random);
-            outcome.count(index, case.judge(part.rooms, &mut random));
+            outcome.count(index, case.judge(&Library, part.rooms, &mut random));
         }
         outcome
     };

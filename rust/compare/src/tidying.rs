@@ -1,6 +1,7 @@
 //! Runs tidy of both programs over a text, with buffers of several lengths, and
 //! looks at every byte lent.
 
+use crate::calls::Calls;
 use crate::case::Case;
 use crate::judge::shown;
 use crate::lent::Lent;
@@ -48,6 +49,7 @@ impl Rooms {
 /// The codes both give, or what is different. The text is the case's own, held
 /// somewhere else.
 pub fn judge_tidy(
+    calls: &dyn Calls,
     text: &[u8],
     case: &Case,
     rooms: Rooms,
@@ -59,7 +61,7 @@ pub fn judge_tidy(
     for room in rooms.draw(text.len(), random) {
         let second = second::tidy(text, room);
         judge_known(text, case, room, &second)?;
-        judge_proved("tidy", text, room, &second, random)?;
+        judge_proved(calls, "tidy", text, room, &second, random)?;
         codes.add(second.code);
         if second.code == 0 {
             written = Some(second);
@@ -68,7 +70,7 @@ pub fn judge_tidy(
     if let Some(written) = written {
         // What was written is the written form of itself.
         let room = written.length + random.pick(&[0, 0, 1, 100]);
-        judge_proved("tidy again", &written.bytes, room, &written, random)?;
+        judge_proved(calls, "tidy again", &written.bytes, room, &written, random)?;
     }
     Ok(codes)
 }
@@ -111,6 +113,7 @@ fn known(case: &Case, room: usize) -> Option<Tidied> {
 /// The proved call must answer what is wanted, write its bytes and leave all
 /// others.
 fn judge_proved(
+    calls: &dyn Calls,
     call: &str,
     text: &[u8],
     room: usize,
@@ -118,7 +121,7 @@ fn judge_proved(
     random: &mut Random,
 ) -> Result<(), String> {
     let mut lent = Lent::new(room, random);
-    let proved = bridge::tidy(text, lent.buffer());
+    let proved = calls.tidy(text, lent.buffer());
     let answers = (proved.code, proved.line, proved.length);
     let wrong = lent.first_wrong(&wanted.bytes);
     if answers == (wanted.code, wanted.line, wanted.length) && wrong.is_none() {

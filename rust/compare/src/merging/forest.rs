@@ -15,7 +15,7 @@ pub struct Forest {
 }
 
 impl Forest {
-    pub fn new() -> Forest {
+    pub fn empty() -> Forest {
         Forest {
             lists: BTreeMap::from([(TOP, Vec::new())]),
             contents: BTreeMap::new(),
@@ -23,12 +23,22 @@ impl Forest {
     }
 
     pub fn of(tree: &Tree) -> Forest {
-        let mut forest = Forest::new();
+        let mut forest = Forest::empty();
         for line in tree.lines() {
             let [number, parent] = [&line.number, &line.parent].map(|digits| value(digits));
             forest.insert(number, parent, usize::MAX, &line.content);
         }
         forest
+    }
+
+    /// The table that a text holds, if the second program can read it.
+    pub fn read(text: &[u8]) -> Option<Forest> {
+        let table = second::Table::read(text).ok()?;
+        let mut forest = Forest::empty();
+        for record in table.records() {
+            forest.insert(record.number, record.parent, usize::MAX, record.content);
+        }
+        Some(forest)
     }
 
     pub fn has(&self, number: u32) -> bool {
@@ -198,12 +208,14 @@ mod tests {
             assert_eq!(forest.written(), tree.written());
             let text = forest.any_text(&mut random);
             assert_eq!(second::tidy(&text, text.len()).bytes, tree.written());
+            assert_eq!(Forest::read(&text), Some(forest));
         }
+        assert_eq!(Forest::read(b"1\t1\tx\n"), None);
     }
 
     #[test]
     fn changes() {
-        let mut forest = Forest::new();
+        let mut forest = Forest::empty();
         for (number, parent) in [(1, 0), (2, 1), (3, 1), (4, 3)] {
             forest.insert(number, parent, usize::MAX, b"x");
         }

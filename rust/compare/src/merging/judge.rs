@@ -2,6 +2,7 @@
 //! lengths, and looks at every byte lent.
 
 use super::{rooms, Known, Triple};
+use crate::calls::Calls;
 use crate::judge::{judge_text, shown};
 use crate::lent::{Held, Lent};
 use crate::met::{Codes, Given};
@@ -12,7 +13,13 @@ use second::{Merged, MergedBytes};
 use std::fmt::Write;
 
 /// What the second program has to say before there is a word of room.
-type Wanted = Result<MergedBytes, Merged>;
+pub type Wanted = Result<MergedBytes, Merged>;
+
+/// What is told of a triple by the calls and the second program alike.
+pub struct Told {
+    pub codes: Codes,
+    pub result: Wanted,
+}
 
 /// Codes from here on are given for tables that can all be read.
 const LEAST_CODE_OF_READABLE: u32 = 21;
@@ -20,39 +27,57 @@ const LEAST_CODE_OF_READABLE: u32 = 21;
 impl Judged for Triple {
     const NAMED: &'static str = "triples";
 
-    fn judge(&self, rooms: Rooms, random: &mut Random) -> Result<Given, String> {
-        let held = self.texts.each_ref().map(|text| Held::new(text, random));
-        let texts = held.each_ref().map(Held::text);
-        let merge = judge_merge(self, texts, rooms, random)
-            .map_err(|report| report + &texts.map(shown).join("\n"))?;
-        for (text, before) in texts.iter().zip(&self.texts) {
-            judge_text(text, before)?;
-        }
+    fn judge(&self, calls: &dyn Calls, rooms: Rooms, random: &mut Random) -> Result<Given, String> {
         Ok(Given {
-            merge,
+            merge: self.told(calls, rooms, random)?.codes,
             ..Given::default()
         })
     }
 }
 
+impl Triple {
+    /// What is told of it, or what is different.
+    pub fn told(
+        &self,
+        calls: &dyn Calls,
+        rooms: Rooms,
+        random: &mut Random,
+    ) -> Result<Told, String> {
+        let held = self.texts.each_ref().map(|text| Held::new(text, random));
+        let texts = held.each_ref().map(Held::text);
+        let told = judge_merge(calls, self, texts, rooms, random)
+            .map_err(|report| report + &texts.map(shown).join("\n"))?;
+        for (text, before) in texts.iter().zip(&self.texts) {
+            judge_text(text, before)?;
+        }
+        Ok(told)
+    }
+}
+
 fn judge_merge(
+    calls: &dyn Calls,
     triple: &Triple,
     texts: [&[u8]; 3],
     rooms: Rooms,
     random: &mut Random,
-) -> Result<Codes, String> {
+) -> Result<Told, String> {
     let [old, first, second] = texts;
     let wanted = second::merged_bytes(old, &[first, second]);
     judge_known(triple, &wanted)?;
     let mut codes = Codes::default();
     for rooms in rooms::draw(rooms, needed(&wanted, texts), random) {
-        codes.add(judge_in_rooms("merge", texts, rooms, &wanted, random)?);
+        codes.add(judge_in_rooms(
+            calls, "merge", texts, rooms, &wanted, random,
+        )?);
     }
-    judge_swapped(texts, &wanted, random)?;
+    judge_swapped(calls, texts, &wanted, random)?;
     if let Ok(merged) = &wanted {
-        judge_read_back(merged, random)?;
+        judge_read_back(calls, merged, random)?;
     }
-    Ok(codes)
+    Ok(Told {
+        codes,
+        result: wanted,
+    })
 }
 
 /// The lengths of both buffers; for a refused merge some that would do.
@@ -97,15 +122,16 @@ fn told(table: &[u8], ledger: &[u8]) -> String {
 
 /// Both programs with such buffers: the code both answer, or what is different.
 fn judge_in_rooms(
+    calls: &dyn Calls,
     call: &str,
-    [old, first, second]: [&[u8]; 3],
+    texts: [&[u8]; 3],
     rooms: [usize; 2],
     wanted: &Wanted,
     random: &mut Random,
 ) -> Result<u32, String> {
     let [mut table, mut ledger] = rooms.map(|room| Lent::new(room, random));
     let (mut other_table, mut other_ledger) = (table.clone(), ledger.clone());
-    let proved = bridge::merge(old, first, second, table.buffer(), ledger.buffer());
+    let proved = calls.merge(texts, table.buffer(), ledger.buffer());
     let wanted = match wanted {
         Ok(merged) => merged.put(other_table.buffer(), other_ledger.buffer()),
         Err(refused) => *refused,
@@ -138,6 +164,7 @@ fn answer(merged: bridge::Merged) -> Merged {
 /// With the desks swapped, readable tables have the same result but for their
 /// marks in the ledger.
 fn judge_swapped(
+    calls: &dyn Calls,
     [old, first, second]: [&[u8]; 3],
     wanted: &Wanted,
     random: &mut Random,
@@ -152,7 +179,14 @@ fn judge_swapped(
     };
     let texts = [old, second, first];
     let rooms = needed(wanted, texts);
-    judge_in_rooms("merge, the desks swapped,", texts, rooms, &swapped, random)?;
+    judge_in_rooms(
+        calls,
+        "merge, the desks swapped,",
+        texts,
+        rooms,
+        &swapped,
+        random,
+    )?;
     Ok(())
 }
 
@@ -177,9 +211,13 @@ fn traded(ledger: &[u8]) -> Vec<u8> {
 }
 
 /// The merged table can be read, and is its own written form.
-fn judge_read_back(merged: &MergedBytes, random: &mut Random) -> Result<(), String> {
+fn judge_read_back(
+    calls: &dyn Calls,
+    merged: &MergedBytes,
+    random: &mut Random,
+) -> Result<(), String> {
     let mut lent = Lent::new(merged.table.len(), random);
-    let tidied = bridge::tidy(&merged.table, lent.buffer());
+    let tidied = calls.tidy(&merged.table, lent.buffer());
     let told = (tidied.code, tidied.length);
     match lent.first_wrong(&merged.table) {
         None if told == (0, merged.table.len()) => Ok(()),

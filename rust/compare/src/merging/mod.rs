@@ -2,7 +2,7 @@
 
 pub mod edits;
 pub mod forest;
-mod judge;
+pub mod judge;
 pub mod pairs;
 mod rooms;
 

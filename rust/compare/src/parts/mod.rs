@@ -1,10 +1,10 @@
 //! The parts of the comparison. Each makes texts of one sort.
 
 mod alone;
-mod damaged;
+pub mod damaged;
 mod good;
 mod limits;
-mod merges;
+pub mod merges;
 mod near;
 mod pairs;
 mod raw;

@@ -24,7 +24,7 @@ pub fn triples() -> Vec<Triple> {
 /// less, with the next in written order put last under the one before or under
 /// one above that.
 fn trees() -> Vec<Forest> {
-    let mut trees = vec![Forest::new()];
+    let mut trees = vec![Forest::empty()];
     let mut grown = trees.clone();
     while !grown.is_empty() {
         grown = grown.iter().flat_map(with_one_more).collect();

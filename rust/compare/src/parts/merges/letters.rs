@@ -110,7 +110,7 @@ fn draw_numbers(random: &mut Random) -> Vec<u32> {
 
 /// 1(2 3*) is record 1 with the children 2 and 3, of which 3 has a new content.
 fn read(tree: &str, numbers: &[u32]) -> Forest {
-    let mut forest = Forest::new();
+    let mut forest = Forest::empty();
     let mut parents = vec![TOP];
     let mut last = TOP;
     let spaced = tree.replace('(', " ( ").replace(')', " ) ");

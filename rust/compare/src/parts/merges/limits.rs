@@ -77,7 +77,7 @@ fn triple(
     bytes: Option<usize>,
     random: &mut Random,
 ) -> Triple {
-    let mut merged = Forest::new();
+    let mut merged = Forest::empty();
     merged.insert(ROOT, TOP, 0, b"airport");
     hang(&mut merged, shape, ROOT, by_first);
     hang(&mut merged, shape, TOP, by_second);
