@@ -1,37 +1,39 @@
 //! Runs the proved library and the second program over the same texts.
 //!
-//! `cargo run --release -p compare [-- [--codes] [SEED [TEXTS]]]`
+//! `cargo run --release -p compare [-- [--codes] [--one-in N] [SEED [TEXTS]]]`
 //!
 //! Merge is run over a third as many triples of texts as check and tidy over
 //! texts.
 //!
 //! A part of the comparison is a test, and so is, for each call, that it gave
 //! each of its codes often enough. `--codes` shows how often in each part.
+//! `--one-in` runs only one case in N of each part, for tools that make a run
+//! slow; how often codes were met is no test then.
 
 #![forbid(unsafe_code)]
 
 use compare::met::{Met, LEAST_OF_EACH_CODE};
-use compare::run::{met_by_all, run_all, Outcome};
+use compare::run::{met_by_all, run_all, Cases, Outcome};
 use std::process::ExitCode;
 
 const SEED: u64 = 2004;
 const TEXTS: usize = 150_000;
 
 struct Wanted {
-    seed: u64,
-    texts: usize,
+    cases: Cases,
     codes: bool,
 }
 
 fn main() -> ExitCode {
     let Some(wanted) = wanted(std::env::args().skip(1)) else {
-        eprintln!("usage: compare [--codes] [SEED [TEXTS]]");
+        eprintln!("usage: compare [--codes] [--one-in N] [SEED [TEXTS]]");
         return ExitCode::from(2);
     };
-    let outcomes = run_all(wanted.seed, wanted.texts, |outcome| {
-        show(outcome, wanted.codes)
-    });
-    let seldom = show_codes(&met_by_all(&outcomes));
+    let outcomes = run_all(wanted.cases, |outcome| show(outcome, wanted.codes));
+    let seldom = match wanted.cases.one_in {
+        1 => show_codes(&met_by_all(&outcomes)).to_vec(),
+        _ => Vec::new(),
+    };
     let tests = outcomes.len() + seldom.len();
     let failed = outcomes.iter().filter(|part| part.differences > 0).count()
         + seldom.iter().filter(|codes| !codes.is_empty()).count();
@@ -39,30 +41,31 @@ fn main() -> ExitCode {
     ExitCode::from(u8::from(failed > 0))
 }
 
-fn wanted(arguments: impl Iterator<Item = String>) -> Option<Wanted> {
-    let mut wanted = Wanted {
+fn wanted(mut arguments: impl Iterator<Item = String>) -> Option<Wanted> {
+    let mut cases = Cases {
         seed: SEED,
         texts: TEXTS,
-        codes: false,
+        one_in: 1,
     };
+    let mut codes = false;
     let mut numbers = Vec::new();
-    for argument in arguments {
-        if argument == "--codes" {
-            wanted.codes = true;
-        } else {
-            numbers.push(argument.parse::<u64>().ok()?);
+    while let Some(argument) = arguments.next() {
+        match argument.as_str() {
+            "--codes" => codes = true,
+            "--one-in" => cases.one_in = arguments.next()?.parse().ok().filter(|&n| n > 0)?,
+            number => numbers.push(number.parse::<u64>().ok()?),
         }
     }
     if numbers.len() > 2 {
         return None;
     }
     if let Some(&seed) = numbers.first() {
-        wanted.seed = seed;
+        cases.seed = seed;
     }
     if let Some(&texts) = numbers.get(1) {
-        wanted.texts = usize::try_from(texts).ok()?;
+        cases.texts = usize::try_from(texts).ok()?;
     }
-    Some(wanted)
+    Some(Wanted { cases, codes })
 }
 
 fn show(outcome: &Outcome, with_codes: bool) {
@@ -102,9 +105,48 @@ mod tests {
     /// Fewer texts than the program runs, from another seed.
     #[test]
     fn no_part_differs() {
-        let outcomes = run_all(1, 48_000, |outcome| show(outcome, false));
+        let cases = Cases {
+            seed: 1,
+            texts: 48_000,
+            one_in: 1,
+        };
+        let outcomes = run_all(cases, |outcome| show(outcome, false));
         assert!(outcomes.iter().all(|part| part.differences == 0));
         let none: [Vec<u32>; 3] = Default::default();
         assert_eq!(show_codes(&met_by_all(&outcomes)), none);
+    }
+
+    #[test]
+    fn one_case_in_many() {
+        let cases = Cases {
+            seed: 1,
+            texts: 48_000,
+            one_in: 1_000,
+        };
+        let outcomes = run_all(cases, |_| ());
+        assert!(outcomes
+            .iter()
+            .all(|part| part.differences == 0 && part.count > 0));
+        let count: usize = outcomes.iter().map(|part| part.count).sum();
+        assert!((100..300).contains(&count), "{count}");
+    }
+
+    #[test]
+    fn arguments() {
+        let read = |line: &str| {
+            let wanted = wanted(line.split_whitespace().map(str::to_string))?;
+            let Cases {
+                seed,
+                texts,
+                one_in,
+            } = wanted.cases;
+            Some((wanted.codes, one_in, seed, texts))
+        };
+        assert_eq!(read(""), Some((false, 1, SEED, TEXTS)));
+        assert_eq!(read("--one-in 9 7"), Some((false, 9, 7, TEXTS)));
+        assert_eq!(read("7 --codes 8"), Some((true, 1, 7, 8)));
+        for line in ["--one-in", "--one-in 0", "x", "1 2 3"] {
+            assert_eq!(read(line), None, "{line}");
+        }
     }
 }

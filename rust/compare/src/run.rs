@@ -60,12 +60,22 @@ impl Outcome {
 /// For so many texts there is one triple to merge.
 const TEXTS_A_TRIPLE: usize = 3;
 
-/// Runs each part, about `texts` texts in all, and shows each outcome as soon
-/// as it is known.
-pub fn run_all(seed: u64, texts: usize, show: impl Fn(&Outcome)) -> Vec<Outcome> {
-    let mut outcomes = run_parts(&PARTS, 0, seed, texts, &show);
-    let triples = texts / TEXTS_A_TRIPLE;
-    outcomes.extend(run_parts(&MERGE_PARTS, PARTS.len(), seed, triples, &show));
+/// Which cases are run.
+#[derive(Clone, Copy, Debug)]
+pub struct Cases {
+    pub seed: u64,
+    /// About so many texts in all.
+    pub texts: usize,
+    /// Of these, and of the triples, only one in so many.
+    pub one_in: usize,
+}
+
+/// Runs each part, and shows each outcome as soon as it is known.
+pub fn run_all(cases: Cases, show: impl Fn(&Outcome)) -> Vec<Outcome> {
+    let triples = cases.texts / TEXTS_A_TRIPLE;
+    let mut outcomes = run_parts(&PARTS, 0, cases, cases.texts, &show);
+    let merges = run_parts(&MERGE_PARTS, PARTS.len(), cases, triples, &show);
+    outcomes.extend(merges);
     outcomes
 }
 
@@ -73,19 +83,19 @@ pub fn run_all(seed: u64, texts: usize, show: impl Fn(&Outcome)) -> Vec<Outcome>
 fn run_parts<C: Judged>(
     parts: &[Part<C>],
     place: usize,
-    seed: u64,
+    cases: Cases,
     wanted: usize,
     show: &impl Fn(&Outcome),
 ) -> Vec<Outcome> {
-    let listed: usize = parts.iter().map(listed_count).sum();
+    let lists: Vec<Vec<C>> = parts.iter().map(list).collect();
+    let listed: usize = parts.iter().zip(&lists).map(counted).sum();
     let drawn_count = wanted.saturating_sub(listed).max(FEWEST_DRAWN);
     let mut outcomes = Vec::new();
-    for (place, part) in (place..).zip(parts) {
-        let run = |count, make: Make<C>| run_part(part, place, seed, count, make);
+    for ((place, part), list) in (place..).zip(parts).zip(&lists) {
+        let run = |count, make: Make<C>| run_part(part, place, cases, count, make);
         let outcome = match part.source {
-            Source::Listed(cases) | Source::Every(cases) => {
-                let cases = cases();
-                run(cases.len(), &|index, _| cases[index].clone())
+            Source::Listed(_) | Source::Every(_) => {
+                run(list.len(), &|index, _| list[index].clone())
             }
             Source::Drawn { share, draw } => {
                 run(drawn_count * share / 100, &|_, random| draw(random))
@@ -97,10 +107,18 @@ fn run_parts<C: Judged>(
     outcomes
 }
 
-/// How many of those wanted a part has always.
-fn listed_count<C>(part: &Part<C>) -> usize {
+/// The cases that a part has always.
+fn list<C>(part: &Part<C>) -> Vec<C> {
     match part.source {
-        Source::Listed(cases) => cases().len(),
+        Source::Listed(list) | Source::Every(list) => list(),
+        Source::Drawn { .. } => Vec::new(),
+    }
+}
+
+/// How many of those wanted they are.
+fn counted<C>((part, list): (&Part<C>, &Vec<C>)) -> usize {
+    match part.source {
+        Source::Listed(_) => list.len(),
         Source::Every(_) | Source::Drawn { .. } => 0,
     }
 }
@@ -113,15 +131,15 @@ type Make<'a, C> = &'a (dyn Fn(usize, &mut Random) -> C + Sync);
 fn run_part<C: Judged>(
     part: &Part<C>,
     place: usize,
-    seed: u64,
+    cases: Cases,
     count: usize,
     make: Make<C>,
 ) -> Outcome {
     let threads = thread::available_parallelism().map_or(1, usize::from);
     let run_every = |first: usize| {
         let mut outcome = Outcome::default();
-        for index in (first..count).step_by(threads) {
-            let mut random = Random::for_text(seed, place, index);
+        for index in (first * cases.one_in..count).step_by(threads * cases.one_in) {
+            let mut random = Random::for_text(cases.seed, place, index);
             let case = make(index, &mut random);
             outcome.count(index, case.judge(&Library, part.rooms, &mut random));
         }
