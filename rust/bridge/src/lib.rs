@@ -1,5 +1,52 @@
-//! Safe calls to the proved library. All the unsafe code of the workspace is in
-//! this crate.
+//! Safe calls to the proved library: check, tidy and merge tables, and find the
+//! content of a record. Every call takes any bytes and asks nothing of its
+//! caller; what a call answers is proved to be what document 01 says.
+//!
+//! All the unsafe code of the workspace is in this crate. `rust/staticlib` must
+//! have written the library that it links.
+//!
+//! A merge of document 01's demonstration, and what can be asked of the merged
+//! table then:
+//!
+//! ```
+//! let old = b"1\t0\tairport\tid=XQAA\n\
+//!             2\t1\thold\tfix=TARNO\tturn=L\n\
+//!             3\t1\tnote\ttext=old\n";
+//! let first = b"1\t0\tairport\tid=XQAA\n\
+//!               2\t1\thold\tfix=TARNO\tturn=L\n\
+//!               3\t1\tnote\ttext=new\n";
+//! let second = b"1\t0\tairport\tid=XQAA\n\
+//!                2\t1\thold\tfix=TARNO\tturn=L\n\
+//!                4\t1\thold\tfix=BELIN\tturn=R\n\
+//!                3\t1\tnote\ttext=old\n";
+//!
+//! // So much room is always enough.
+//! let (mut table, mut ledger) = (vec![0; 32_768], vec![0; 8_192]);
+//! let merged = bridge::merge(old, first, second, &mut table, &mut ledger);
+//! assert_eq!((merged.code, merged.table, merged.place), (0, 0, 0));
+//!
+//! let table = &table[..merged.table_length];
+//! let ledger = &ledger[..merged.ledger_length];
+//! assert_eq!(
+//!     table,
+//!     b"1\t0\tairport\tid=XQAA\n\
+//!       2\t1\thold\tfix=TARNO\tturn=L\n\
+//!       4\t1\thold\tfix=BELIN\tturn=R\n\
+//!       3\t1\tnote\ttext=new\n"
+//! );
+//! // Record 4 is second's, the note is first's.
+//! assert_eq!(ledger, b"1\t0\t15\n2\t0\t21\n4\t2\t21\n3\t1\t13\ntotal\t4\t70\n");
+//!
+//! let checked = bridge::check(table);
+//! assert_eq!((checked.code, checked.count, checked.depth), (0, 4, 2));
+//! assert_eq!(bridge::content(table, 4), b"hold\tfix=BELIN\tturn=R");
+//! ```
+//!
+//! # Stack
+//!
+//! The library borrows no memory but the stack: some 170 KB for a call on one
+//! table, for [`tidy`] up to 255 KB, and for [`merge`] 660 to 750 KB. A thread
+//! of Rust's own has 2 MB unless it is told otherwise.
 
 #![warn(missing_docs)]
 
@@ -63,6 +110,17 @@ pub struct Part {
 }
 
 /// Checks one table.
+///
+/// ```
+/// let checked = bridge::check(b"1\t0\troute\n2\t1\thold\n");
+/// assert_eq!((checked.code, checked.line), (0, 0));
+/// assert_eq!((checked.count, checked.depth), (2, 2));
+///
+/// // Record 7 stands on no earlier line.
+/// let checked = bridge::check(b"1\t0\troute\n2\t7\thold\n");
+/// assert_eq!((checked.code, checked.line), (10, 2));
+/// assert_eq!((checked.count, checked.depth), (0, 0));
+/// ```
 pub fn check(text: &[u8]) -> Checked {
     library::check(text)
 }
@@ -89,12 +147,26 @@ pub fn tidy(text: &[u8], buffer: &mut [u8]) -> Tidied {
 
 /// Where in the text the number's content stands; the empty part at the start
 /// of the text for a refused table or an absent number.
+///
+/// ```
+/// let part = bridge::content_place(b"1\t0\troute\n2\t1\thold\n", 2);
+/// assert_eq!((part.start, part.length), (14, 4));
+/// ```
 pub fn content_place(text: &[u8], number: u32) -> Part {
     library::content(text, number)
 }
 
 /// The part of the text that holds the number's content; the empty part at the
 /// start of the text for a refused table or an absent number.
+///
+/// ```
+/// let text = b"1\t0\troute\n2\t1\thold\tturn=L\n";
+/// assert_eq!(bridge::content(text, 2), b"hold\tturn=L");
+/// // The caller's own bytes, not a copy of them.
+/// assert_eq!(bridge::content(text, 2).as_ptr(), text[14..].as_ptr());
+/// assert_eq!(bridge::content(text, 3), b"");
+/// assert_eq!(bridge::content(b"2\t1\thold\n", 2), b"");
+/// ```
 pub fn content(text: &[u8], number: u32) -> &[u8] {
     let Part { start, length } = content_place(text, number);
     &text[start..][..length]
