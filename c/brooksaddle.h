@@ -8,7 +8,7 @@
  *
  * - Each text is a pointer to so many bytes as its length says, which may be read; each buffer a pointer to so many bytes as its room
  *   says, which may be written. No pointer is NULL, not even one to no bytes. Bytes need no alignment.
- * - No two of them overlap: no buffer a text, nor the other buffer, nor one text another.
+ * - No buffer overlaps a text or the other buffer. Texts are only read, so they may overlap, or be one.
  * - Nobody else writes to them during the call. The library itself only reads the texts.
  * - The stack has room. A call on one table takes some 170 KB of it, tidy up to 255 KB (for 512 records, each below the last), and
  *   merge 660 to 750 KB. A call that runs out of stack is stopped by the system, so a thread with a small one is no place for it.
