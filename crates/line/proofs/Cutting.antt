@@ -4,7 +4,7 @@
 use mathlib.Core.Path.{_≡_, refl, sym, ap, _∙_}
 use mathlib.Core.Bool.{Bool, true, false, cond, not, true≢false}
 use mathlib.Core.List.{List, [], _∷_, _++_, append-nil}
-use Prim.Native.Nat.{ℕ, suc, _+_, _<_, _≤_}
+use Prim.Native.Nat.{ℕ, suc, _+_, _-_, _<_, _≤_}
 use native.Mathlib.Omega.{arith}
 use lib.Dec.{T, eqb, ltb}
 use lib.ListN.{length, getD, take, drop, length-append}
@@ -173,6 +173,10 @@ module _ (p q c : List ℕ) (h : T (every plain p)) (k : T (every plain q)) wher
   joined-long = omega (arith, length-append p (TAB ∷ q ++ (TAB ∷ c)), length-append q (TAB ∷ c))
 
 -- ---- the ways through the cut
+
+-- a tab stands before the content
+pub tab-before : (s : List ℕ) (end y : ℕ) → y ≡ byteAt s end → y ≡ TAB → byteAt s (end + 1 - 1) ≡ TAB
+tab-before s end y b t = let k : end + 1 - 1 ≡ end = omega arith in ap (byteAt s) k ∙ sym b ∙ t
 
 -- the line goes on behind the tab
 line-tab : (s : List ℕ) (from end : ℕ) → Tabbed s from end

@@ -3,6 +3,7 @@
 pub mod Leaves
 pub mod PlainBytes
 pub mod Places
+pub mod GoodBytes
 pub mod Scanning
 pub mod Cutting
 pub mod Parting

@@ -38,7 +38,7 @@ module _ (s : List ℕ) (from end x : ℕ) (e : end ≡ from + plainRun (drop fr
   pub part-plain : T (every plain (part s from end))
   part-plain = rw run-long (run-plain (drop from s))
 
-  pub part-long : length (part s from end) ≡ end - from
+  part-long : length (part s from end) ≡ end - from
   part-long = length-take-le (end - from) (drop from s) (omega (arith, run-long, run-le (drop from s)))
 
   pub part-left : drop from s ≡ part s from end ++ drop end s

@@ -1,16 +1,16 @@
 -- Plain bytes passed over: a run of them, and what stands behind it. p are plain bytes, s, t and r parts of a text, b a byte that is not
 -- plain, x a byte. Assumes nothing.
-use mathlib.Core.Path.{_≡_, refl, sym, ap}
+use mathlib.Core.Path.{_≡_, refl, ap}
 use mathlib.Core.Bool.{Bool, true, false, cond, not}
 use mathlib.Core.List.{List, [], _∷_, _++_}
 use Prim.Native.Nat.{ℕ, suc, _≤_}
 use native.Mathlib.Omega.{arith}
-use lib.Dec.{T, eqb, ltb}
+use lib.Dec.{T, eqb}
 use lib.ListN.{length, getD, take, drop}
 use mir.Facts.{T-not, and-yes}
-use borrow.Author.Tests.{ne-eqb, lt-ltb}
+use borrow.Author.Tests.{ne-eqb}
 use Rattle.rules.specs.Lists.{every}
-use Rattle.rules.specs.Text.{TAB, LF, allowed, count, before, after, onto, fields, filled}
+use Rattle.rules.specs.Text.{TAB, LF, allowed, count, before, after}
 use Rattle.text.specs.Reads.{plain, plainRun}
 
 is-true : (u : Bool) → T u → u ≡ true
@@ -22,7 +22,7 @@ is-true false h = absurd h
 differs : (b x : ℕ) → T (not (plain b)) → T (plain x) → eqb x b ≡ false
 differs b x n h = ne-eqb x b (λ e. let k : T (plain b) = rw e at h in T-not (plain b) k n)
 
-pub plain-allowed : (x : ℕ) → T (plain x) → allowed x ≡ true
+plain-allowed : (x : ℕ) → T (plain x) → allowed x ≡ true
 plain-allowed x h = rw (differs TAB x tt h) (is-true (plain x) h)
 
 -- ---- plain bytes before others
@@ -51,26 +51,6 @@ allowed-plain [] r h = refl
 allowed-plain (x ∷ p) r h =
     let a = and-yes (plain x) (every plain p) h in
     rw (plain-allowed x (a .0)) (allowed-plain p r (a .1))
-
--- ---- fields
-
--- a field up to its tab
-pub fields-tab : (p c : List ℕ) → T (every plain p) → fields (p ++ (TAB ∷ c)) ≡ p ∷ fields c
-fields-tab [] c h = refl
-fields-tab (x ∷ p) c h =
-    let a = and-yes (plain x) (every plain p) h in
-    rw (differs TAB x tt (a .0)) (ap (onto x) (fields-tab p c (a .1)))
-
--- the last field
-pub fields-last : (p : List ℕ) → T (every plain p) → fields p ≡ p ∷ []
-fields-last [] h = refl
-fields-last (x ∷ p) h =
-    let a = and-yes (plain x) (every plain p) h in
-    rw (differs TAB x tt (a .0)) (ap (onto x) (fields-last p (a .1)))
-
-pub filled-long : (p : List ℕ) → filled p ≡ ltb 0 (length p)
-filled-long [] = refl
-filled-long (x ∷ p) = sym (lt-ltb 0 (suc (length p)) (omega arith))
 
 -- ---- the run that a text starts with
 

@@ -1,133 +1,173 @@
--- The fields of a content, one after another up to their tabs. t is what is left of the text s from a field's start `from` on, `end` the
--- place where the field's plain bytes end, x the byte there, p plain bytes, r what stands behind them. Assumes nothing.
+-- The fields of a content, byte by byte: a tab ends one, a byte that is not allowed ends the last. s is the text, i the place reached, x
+-- the byte there, y the byte before it, u whether the fields before are filled, `whole` what is told of all. Assumes nothing.
 use mathlib.Core.Path.{_≡_, refl, sym, ap, _∙_}
-use mathlib.Core.Bool.{Bool, true, false, _&&_, and-true}
-use mathlib.Core.List.{List, [], _∷_, _++_}
+use mathlib.Core.Bool.{Bool, true, false, not, _&&_, and-assoc, true≢false}
+use mathlib.Core.List.{List, [], _∷_}
 use Prim.Native.Nat.{ℕ, suc, _+_, _-_, _<_}
 use native.Mathlib.Omega.{arith}
-use lib.Dec.{T, ltb}
-use lib.ListN.{length, getD, take, drop}
-use lib.Seq.{take-append-add, take-append-seam}
-use mir.Facts.{and-yes}
+use lib.Dec.{eqb, ltb}
+use lib.ListN.{length, getD, take, drop, length-drop}
 use borrow.Author.Needs.{needs}
-use borrow.Author.Tests.{ne-eqb, lt-ltb, le-ltb, ltb-true, ltb-false}
+use borrow.Author.Tests.{eqb-true, eq-eqb, ne-eqb, ltb-true, ltb-false, not-true, not-false}
 use Rattle.rules.specs.Lists.{every}
-use Rattle.rules.specs.Text.{TAB, LF, fields, filled}
-use Rattle.text.specs.Reads.{byteAt, plain, plainRun}
-use Rattle.line.specs.Parts.{allowedRun, allFilled, fieldsFrom}
+use Rattle.rules.specs.Text.{TAB, LF, onto, fields, filled}
+use Rattle.text.specs.Reads.{byteAt, plain}
+use Rattle.text.proofs.Places.{left-next, byte-here, byte-none}
+use Rattle.line.specs.Parts.{allowedRun, allFilled, fieldsFrom, restFilled, restFrom, fieldsAt}
 use Rattle.line.specs.declared.Fields.{Fields}
-use Rattle.line.proofs.PlainBytes.{plain-allowed, fields-tab, fields-last, filled-long}
-use Rattle.line.proofs.Places.{byte-first, part, Tabbed, tabbed, part-plain, part-long, part-left, byte-stops}
+use Rattle.line.proofs.Places.{byte-first}
 
--- ---- one field
+-- ---- the fields behind a byte
 
-allowed-run : (p r : List ℕ) → T (every plain p) → allowedRun (p ++ r) ≡ length p + allowedRun r
-allowed-run [] r h = omega arith
-allowed-run (x ∷ p) r h =
-    let a = and-yes (plain x) (every plain p) h in
-    rw (plain-allowed x (a .0)) (let ih : allowedRun (p ++ r) ≡ length p + allowedRun r = allowed-run p r (a .1) in omega arith)
+-- all but the first are filled
+abbrev others-filled : List (List ℕ) → Bool
+others-filled [] = true
+others-filled (part ∷ parts) = every filled parts
 
--- a byte that is neither a tab nor plain ends the allowed bytes
+-- a byte fills the first
+onto-filled : (x : ℕ) (parts : List (List ℕ)) → every filled (onto x parts) ≡ others-filled parts
+onto-filled x [] = refl
+onto-filled x (part ∷ parts) = refl
+
+onto-others : (x : ℕ) (parts : List (List ℕ)) → others-filled (onto x parts) ≡ others-filled parts
+onto-others x [] = refl
+onto-others x (part ∷ parts) = refl
+
+-- the fields that the allowed bytes of s make
+abbrev made : List ℕ → List (List ℕ)
+made s = fields (take (allowedRun s) s)
+
+made-tab : (x : ℕ) (s : List ℕ) → eqb x TAB ≡ true → made (x ∷ s) ≡ [] ∷ made s
+made-tab x s q =
+    let e : take (allowedRun (x ∷ s)) (x ∷ s) ≡ x ∷ take (allowedRun s) s = rw q in
+    ap fields e ∙ rw q
+
+made-plain : (x : ℕ) (s : List ℕ) → eqb x TAB ≡ false → plain x ≡ true → made (x ∷ s) ≡ onto x (made s)
+made-plain x s q r =
+    let e : take (allowedRun (x ∷ s)) (x ∷ s) ≡ x ∷ take (allowedRun s) s = rw (q, r) in
+    ap fields e ∙ rw q
+
+-- behind a tab all of them count, behind another byte all but the first
+record Judged (s : List ℕ) : Type 0 where
+  opened : allFilled s ≡ restFilled TAB s
+  begun : (y : ℕ) → eqb y TAB ≡ false → others-filled (made s) ≡ restFilled y s
+
+judged : (s : List ℕ) → Judged s
+judged [] = record { opened = refl; begun = λ y n. rw n }
+judged (x ∷ s) = go (eqb x TAB) (plain x) refl refl (judged s)
+  where
+    go : (t p : Bool) → eqb x TAB ≡ t → plain x ≡ p → Judged s → Judged (x ∷ s)
+    go true p q r h =
+        let same : restFilled TAB s ≡ restFilled x s = ap (λ (b : ℕ). restFilled b s) (sym (eqb-true x TAB q)) in
+        record {
+          opened = ap (every filled) (made-tab x s q) ∙ rw q;
+          begun = λ y n. ap others-filled (made-tab x s q) ∙ h .opened ∙ same ∙ rw (q, n);
+        }
+    go false true q r h =
+        record {
+          opened = ap (every filled) (made-plain x s q r) ∙ onto-filled x (made s) ∙ h .begun x q ∙ rw (q, r);
+          begun = λ y n. ap others-filled (made-plain x s q r) ∙ onto-others x (made s) ∙ h .begun x q ∙ rw (q, r);
+        }
+    go false false q r h = record { opened = rw (q, r); begun = λ y n. rw (q, r, n) }
+
+-- ---- from the start on
+
+pub fields-start : (s : List ℕ) (start wide i last : ℕ) → byteAt s (start - 1) ≡ TAB → fieldsAt s wide ≡ fieldsAt s start
+    → fieldsAt s i ≡ fieldsAt s wide → last ≡ byteAt s (i - 1) → restFrom true last i (drop i s) ≡ fieldsFrom true start (drop start s)
+fields-start s start wide i last t e f b =
+    ap (λ (y : ℕ). restFrom true y i (drop i s)) b ∙ f ∙ e
+    ∙ ap (λ (y : ℕ). restFrom true y start (drop start s)) t
+    ∙ ap (λ (u : Bool). record { end = start + allowedRun (drop start s); filled = u }) (sym (judged (drop start s) .opened))
+
+-- ---- one byte more
+
+-- what is left starts with the byte there, unless that is given as an LF
+left-first : (s : List ℕ) (i x : ℕ) → x ≡ byteAt s i → (x ≡ LF → ⊥) → drop i s ≡ x ∷ drop (i + 1) s
+left-first s i x b n = go (ltb i (length s)) refl
+  where
+    go : (t : Bool) → ltb i (length s) ≡ t → drop i s ≡ x ∷ drop (i + 1) s
+    go true q =
+        let h = ltb-true i (length s) q in
+        left-next s i h ∙ ap (λ (z : ℕ). z ∷ drop (i + 1) s) (byte-here s i h ∙ sym b)
+    go false q = absurd (n (b ∙ sym (byte-none s i (ltb-false i (length s) q))))
+
+-- a byte that is neither a tab nor plain ends the fields
 run-none : (r : List ℕ) → (getD r 0 LF ≡ TAB → ⊥) → plain (getD r 0 LF) ≡ false → allowedRun r ≡ 0
 run-none [] n f = refl
 run-none (x ∷ r) n f = rw (ne-eqb x TAB n, f)
 
--- a field up to its tab, and those behind it
-tab-run : (p c : List ℕ) → T (every plain p) → allowedRun (p ++ (TAB ∷ c)) ≡ length p + suc (allowedRun c)
-tab-run p c h = allowed-run p (TAB ∷ c) h
+filled-none : (y : ℕ) (r : List ℕ) → (getD r 0 LF ≡ TAB → ⊥) → plain (getD r 0 LF) ≡ false → restFilled y r ≡ not (eqb y TAB)
+filled-none y [] n f = refl
+filled-none y (x ∷ r) n f = rw (ne-eqb x TAB n, f)
 
-tab-filled : (p c : List ℕ) → T (every plain p) → allFilled (p ++ (TAB ∷ c)) ≡ (ltb 0 (length p) && allFilled c)
-tab-filled p c h =
-    ap (λ (k : ℕ). every filled (fields (take k (p ++ (TAB ∷ c))))) (tab-run p c h)
-    ∙ ap (λ (l : List ℕ). every filled (fields l)) (take-append-add p (TAB ∷ c) (suc (allowedRun c)))
-    ∙ ap (every filled) (fields-tab p (take (allowedRun c) c) h)
-    ∙ ap (λ (u : Bool). u && allFilled c) (filled-long p)
+module _ (s : List ℕ) (i x : ℕ) (b : x ≡ byteAt s i) where
+  -- what is left behind it
+  abbrev behind : List ℕ
+  behind = drop (i + 1) s
 
--- the last field
-last-run : (p r : List ℕ) → T (every plain p) → allowedRun r ≡ 0 → allowedRun (p ++ r) ≡ length p
-last-run p r h z = allowed-run p r h ∙ omega (arith, z)
+  tab-left : x ≡ TAB → drop i s ≡ x ∷ behind
+  tab-left t = left-first s i x b (λ f. absurd (omega (arith, t, f)))
 
-last-filled : (p r : List ℕ) → T (every plain p) → allowedRun r ≡ 0 → allFilled (p ++ r) ≡ ltb 0 (length p)
-last-filled p r h z =
-    ap (λ (k : ℕ). every filled (fields (take k (p ++ r)))) (last-run p r h z)
-    ∙ ap (λ (l : List ℕ). every filled (fields l)) (take-append-seam p r)
-    ∙ ap (every filled) (fields-last p h)
-    ∙ and-true (filled p) ∙ filled-long p
+  plain-left : (p : Bool) → p ≡ plain x → not p ≡ false → drop i s ≡ x ∷ behind
+  plain-left p e f = left-first s i x b (λ l. let k : false ≡ true = sym (e ∙ ap plain l) ∙ not-false p f in absurd (true≢false (sym k)))
 
--- ---- the fields at their places
+  -- a tab and a plain byte stand within the text
+  pub tab-in : x ≡ TAB → i < length s
+  tab-in t = omega (arith, ap length (tab-left t), length-drop i s)
 
-ltb-minus : (from end : ℕ) → ltb 0 (end - from) ≡ ltb from end
-ltb-minus from end = go (ltb from end) refl
-  where
-    go : (u : Bool) → ltb from end ≡ u → ltb 0 (end - from) ≡ u
-    go true q = lt-ltb 0 (end - from) (omega (arith, ltb-true from end q))
-    go false q = le-ltb 0 (end - from) (omega (arith, ltb-false from end q))
+  pub plain-in : (p : Bool) → p ≡ plain x → not p ≡ false → i < length s
+  plain-in p e f = omega (arith, ap length (plain-left p e f), length-drop i s)
 
-and-assoc : (u v w : Bool) → (u && (v && w)) ≡ ((u && v) && w)
-and-assoc true v w = refl
-and-assoc false v w = refl
-
-module _ (s : List ℕ) (from end x : ℕ) (e : end ≡ from + plainRun (drop from s)) (b : x ≡ byteAt s end) where
-  -- a tab stands within the text, and the next field behind it
-  pub tab-high : x ≡ TAB → end < length s
-  tab-high t = tabbed s from end x e b t .high
-
-  pub tab-less : x ≡ TAB → length s - (end + 1) < length s - from
-  tab-less t = let g = tabbed s from end x e b t in omega (arith, g .low, g .high)
-
-  module _ (u v : Bool) (whole : Fields) (f : v ≡ (u && ltb from end)) (same : fieldsFrom u from (drop from s) ≡ whole) where
-    -- a field up to its tab: those from the next place on are left
-    pub fields-on : x ≡ TAB → fieldsFrom v (end + 1) (drop (end + 1) s) ≡ whole
-    fields-on t = (λ i. record { end = place i; filled = all i }) ∙ same
+  module _ (y : ℕ) (u : Bool) (whole : Fields) (same : restFrom u y i (drop i s) ≡ whole) where
+    -- a tab ends a field
+    pub tab-on : (r v : Bool) → x ≡ TAB → r ≡ (u && not (eqb y TAB)) → v ≡ r → restFrom v x (i + 1) behind ≡ whole
+    tab-on r v t e f = (λ j. record { end = place j; filled = all j }) ∙ same
       where
-        g : Tabbed s from end
-        g = tabbed s from end x e b t
+        run : allowedRun (drop i s) ≡ suc (allowedRun behind)
+        run = ap allowedRun (tab-left t) ∙ rw (eq-eqb x TAB t)
 
-        c : List ℕ
-        c = drop (end + 1) s
+        rest : restFilled y (drop i s) ≡ (not (eqb y TAB) && restFilled x behind)
+        rest = ap (restFilled y) (tab-left t) ∙ rw (eq-eqb x TAB t)
 
-        p : List ℕ
-        p = part s from end
+        place : i + 1 + allowedRun behind ≡ i + allowedRun (drop i s)
+        place = omega (arith, run)
 
-        place : end + 1 + allowedRun c ≡ from + allowedRun (drop from s)
-        place = omega (arith, g .low, g .long, ap allowedRun (g .parted) ∙ tab-run p c (g .bytes))
+        all : (v && restFilled x behind) ≡ (u && restFilled y (drop i s))
+        all =
+            ap (λ (w : Bool). w && restFilled x behind) (f ∙ e) ∙ and-assoc u (not (eqb y TAB)) (restFilled x behind)
+            ∙ ap (λ (w : Bool). u && w) (sym rest)
 
-        more : allFilled (drop from s) ≡ (ltb from end && allFilled c)
-        more =
-            ap allFilled (g .parted) ∙ tab-filled p c (g .bytes)
-            ∙ ap (λ (n : ℕ). ltb 0 n && allFilled c) (g .long) ∙ ap (λ (w : Bool). w && allFilled c) (ltb-minus from end)
-
-        all : (v && allFilled c) ≡ (u && allFilled (drop from s))
-        all = rw (more, f) (sym (and-assoc u (ltb from end) (allFilled c)))
-
-    -- the last field
-    pub fields-end : (x ≡ TAB → ⊥) → record { end = end; filled = v } ≡ whole
-    fields-end n = (λ i. record { end = place i; filled = all i }) ∙ same
+    -- a plain byte goes on with it
+    pub plain-on : (p v : Bool) → (x ≡ TAB → ⊥) → p ≡ plain x → not p ≡ false → v ≡ u → restFrom v x (i + 1) behind ≡ whole
+    plain-on p v n e f g = (λ j. record { end = place j; filled = g j && rest j }) ∙ same
       where
-        p : List ℕ
-        p = part s from end
+        run : allowedRun (drop i s) ≡ suc (allowedRun behind)
+        run = ap allowedRun (plain-left p e f) ∙ rw (ne-eqb x TAB n, ← e, not-false p f)
 
-        none : allowedRun (drop end s) ≡ 0
-        none =
-            let first : getD (drop end s) 0 LF ≡ x = byte-first s end ∙ sym b in
-            run-none (drop end s) (λ t. n (sym first ∙ t)) (ap plain first ∙ byte-stops s from end x e b)
+        rest : restFilled x behind ≡ restFilled y (drop i s)
+        rest = sym (ap (restFilled y) (plain-left p e f) ∙ rw (ne-eqb x TAB n, ← e, not-false p f))
 
-        left : drop from s ≡ p ++ drop end s
-        left = part-left s from end x e b
+        place : i + 1 + allowedRun behind ≡ i + allowedRun (drop i s)
+        place = omega (arith, run)
 
-        bytes : T (every plain p)
-        bytes = part-plain s from end x e b
+    -- any other byte, or the end of the text, ends the last
+    pub fields-end : (p v : Bool) → (x ≡ TAB → ⊥) → p ≡ plain x → not p ≡ true → v ≡ (u && not (eqb y TAB))
+        → record { end = i; filled = v } ≡ whole
+    fields-end p v n e f g = (λ j. record { end = place j; filled = all j }) ∙ same
+      where
+        first : getD (drop i s) 0 LF ≡ x
+        first = byte-first s i ∙ sym b
 
-        long : length p ≡ end - from
-        long = part-long s from end x e b
+        other : getD (drop i s) 0 LF ≡ TAB → ⊥
+        other t = n (sym first ∙ t)
 
-        place : end ≡ from + allowedRun (drop from s)
-        place = omega (arith, e, long, ap allowedRun left ∙ last-run p (drop end s) bytes none)
+        stops : plain (getD (drop i s) 0 LF) ≡ false
+        stops = ap plain first ∙ sym e ∙ not-true p f
 
-        last : allFilled (drop from s) ≡ ltb from end
-        last = ap allFilled left ∙ last-filled p (drop end s) bytes none ∙ ap (ltb 0) long ∙ ltb-minus from end
+        place : i ≡ i + allowedRun (drop i s)
+        place = omega (arith, run-none (drop i s) other stops)
 
-        all : v ≡ (u && allFilled (drop from s))
-        all = rw last f
+        all : v ≡ (u && restFilled y (drop i s))
+        all = g ∙ ap (λ (w : Bool). u && w) (sym (filled-none y (drop i s) other stops))
 
-pub ruleset scans = (tab-less, fields-on, fields-end, needs)
+pub ruleset scans = (fields-end, needs)

@@ -1,16 +1,16 @@
--- The parts of one line, and how its content's fields are looked at. s is what is left of a text, l a line without its LF, x a byte.
--- Assumes nothing.
-use mathlib.Core.Bool.{Bool, false, cond, not, _&&_}
+-- The parts of one line, and how its content's fields are looked at. s is what is left of a text, l a line without its LF, x a byte, y
+-- the byte before it. Assumes nothing.
+use mathlib.Core.Bool.{Bool, true, false, cond, not, _&&_, _||_}
 use mathlib.Core.List.{List, [], _∷_}
-use Prim.Native.Nat.{ℕ, suc, _+_}
+use Prim.Native.Nat.{ℕ, zero, suc, _+_, _-_}
 use lib.Dec.{eqb, leb, ltb}
-use lib.ListN.{length, take}
+use lib.ListN.{length, take, drop}
 use Rattle.rules.specs.Codes.{accepted, byteNotAllowed, fewTabs}
 use Rattle.rules.specs.Limits.{CONTENT}
 use Rattle.rules.specs.Lists.{every}
 use Rattle.rules.specs.Line.{numberPart, parentPart, contentPart}
 use Rattle.rules.specs.Text.{TAB, LF, allowed, count, fields, filled}
-use Rattle.text.specs.Reads.{numberIn}
+use Rattle.text.specs.Reads.{byteAt, plain, numberIn}
 use Rattle.line.specs.declared.Fields.{Fields}
 use Rattle.line.specs.declared.Parts.{Parts}
 
@@ -32,6 +32,33 @@ allFilled s = every filled (fields (take (allowedRun s) s))
 -- the fields of what is left from a place on, behind others that are filled or not
 abbrev pub fieldsFrom : Bool → ℕ → List ℕ → Fields
 fieldsFrom others place s = record { end = place + allowedRun s; filled = others && allFilled s }
+
+-- x may stand behind y in fields that are filled: it is plain, or a tab behind no tab
+abbrev pub goodAfter : ℕ → ℕ → Bool
+goodAfter y x = (eqb x TAB && not (eqb y TAB)) || plain x
+
+-- n bytes stand behind y, each good after the one before it
+abbrev pub goodBytes : ℕ → ℕ → List ℕ → Bool
+goodBytes zero y s = true
+goodBytes (suc n) y [] = false
+goodBytes (suc n) y (x ∷ s) = goodAfter y x && goodBytes n x s
+
+-- so do n bytes of s from a place on
+abbrev pub goodFrom : ℕ → List ℕ → ℕ → Bool
+goodFrom n s place = goodBytes n (byteAt s (place - 1)) (drop place s)
+
+-- whether the field that y belongs to, or that y opens if it is a tab, is filled, and those behind it that the allowed bytes of s make
+abbrev pub restFilled : ℕ → List ℕ → Bool
+restFilled y [] = not (eqb y TAB)
+restFilled y (x ∷ s) = cond (eqb x TAB) (not (eqb y TAB) && restFilled x s) (cond (plain x) (restFilled x s) (not (eqb y TAB)))
+
+-- the fields of what is left behind y from a place on, behind others that are filled or not
+abbrev pub restFrom : Bool → ℕ → ℕ → List ℕ → Fields
+restFrom others y place s = record { end = place + allowedRun s; filled = others && restFilled y s }
+
+-- the fields of s from a place on, which the byte before it may belong to
+abbrev pub fieldsAt : List ℕ → ℕ → Fields
+fieldsAt s place = restFrom true (byteAt s (place - 1)) place (drop place s)
 
 -- the rule of a content, by its length and whether all its fields are filled
 abbrev pub contentFits : ℕ → Bool → Bool

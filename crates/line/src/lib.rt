@@ -1,4 +1,5 @@
-// One line of a table: its row, with the place of its content, or its fault. Each run of its bytes is passed over once.
+// One line of a table: its row, with the place of its content, or its fault. Its numbers are passed over byte by byte, its content in
+// groups; at most the last group is looked at again.
 use rules::codes::ACCEPTED;
 use rules::codes::BAD_CONTENT;
 use rules::codes::BAD_NUMBER;
@@ -12,15 +13,17 @@ use text::LF;
 use text::TAB;
 use text::byte_at;
 use text::number_at;
-use text::plain_end;
-ghost use mathlib.Core.Bool.{true, _&&_};
+use text::plain;
+ghost use mathlib.Core.Bool.{true, not, _&&_};
+ghost use mathlib.Core.List.{[], _∷_};
 ghost use mathlib.Core.Path.{_≡_};
-ghost use Prim.Native.Nat.{_-_, min};
-ghost use lib.Dec.{ltb};
+ghost use Prim.Native.Nat.{_+_, _-_, _≤_, min};
+ghost use lib.Dec.{eqb};
 ghost use lib.ListN.{length, drop};
-ghost use Rattle.rules.specs.Text.{LF as lineFeed, before};
+ghost use Rattle.rules.specs.Text.{TAB as tab, LF as lineFeed, before};
+ghost use Rattle.text.specs.Reads.{byteAt};
 ghost use Rattle.line.specs.Told.{faulty as faultyOf, nextLine};
-ghost use Rattle.line.specs.Parts.{shortFault, fieldsFrom, contentFits, noParts, partsOf};
+ghost use Rattle.line.specs.Parts.{shortFault, fieldsFrom, goodAfter, goodBytes, goodFrom, fieldsAt, contentFits, noParts, partsOf};
 
 // What is told of a line: code 0, number, parent, the content's start and length in the line, and where the next line starts; or the
 // code of its fault and zeros.
@@ -83,31 +86,131 @@ fn short_fault(x: u8) -> u32
     if x == LF { FEW_TABS } else { BYTE_NOT_ALLOWED }
 }
 
-// Whether the other fields are filled, and this one is.
-fn still_filled(others: bool, from: usize, end: usize) -> bool
-    ensures { λ r. ⌜ r ≡ others && ltb from end ⌝ }
+// Whether a byte may stand behind another in fields that are filled: it is plain, or a tab behind no tab.
+fn good_after(last: u8, x: u8) -> bool
+    ensures { λ r. ⌜ r ≡ goodAfter last x ⌝ }
 {
-    if others { from < end } else { false }
+    ((x == TAB) & (last != TAB)) | plain(x)
 }
 
-// The fields from a place on, one after another up to their tabs.
+// All eight bytes are looked at, so that the compiler takes them together.
+fn all_good(last: u8, a: u8, b: u8, c: u8, d: u8, e: u8, f: u8, g: u8, h: u8) -> bool
+    ensures { λ r. ⌜ r ≡ goodBytes 8 last (a ∷ b ∷ c ∷ d ∷ e ∷ f ∷ g ∷ h ∷ []) ⌝ }
+{
+    let first = good_after(last, a) & (good_after(a, b) & (good_after(b, c) & good_after(c, d)));
+    let second = good_after(d, e) & (good_after(e, f) & (good_after(f, g) & good_after(g, h)));
+    first & second
+}
+
+// Whether the eight bytes at a place are good, each after the one before it.
+fn eight_there(s: &[u8], i: usize) -> bool
+    requires { ⌜ (1 ≤ i) × (i + 8 ≤ length (now s)) ⌝ }
+    ensures { λ r. ⌜ r ≡ goodFrom 8 (now (s .entry)) i ⌝ }
+{
+    all_good(
+        s[i - 1],
+        s[i],
+        s[i + 1],
+        s[i + 2],
+        s[i + 3],
+        s[i + 4],
+        s[i + 5],
+        s[i + 6],
+        s[i + 7],
+    )
+}
+
+// The same where there may be fewer.
+fn eight_good(s: &[u8], i: usize) -> bool
+    requires { ⌜ 1 ≤ i ⌝ }
+    ensures { λ r. ⌜ r ≡ goodFrom 8 (now (s .entry)) i ⌝ }
+{
+    if s.len() < 8 {
+        return false;
+    }
+    if s.len() - 8 < i {
+        return false;
+    }
+    eight_there(s, i)
+}
+
+// The same of sixteen.
+fn sixteen_good(s: &[u8], i: usize) -> bool
+    requires { ⌜ 1 ≤ i ⌝ }
+    ensures { λ r. ⌜ r ≡ goodFrom 16 (now (s .entry)) i ⌝ }
+{
+    if s.len() < 16 {
+        return false;
+    }
+    if s.len() - 16 < i {
+        return false;
+    }
+    eight_there(s, i) & eight_there(s, i + 8)
+}
+
+// A place up to which the bytes from a place on are good, by sixteens.
+fn good_sixteens(s: &[u8], from: usize) -> usize
+    requires { ⌜ 1 ≤ from ⌝ }
+    ensures { λ r. ⌜ 1 ≤ r ⌝ }
+    ensures { λ r. ⌜ fieldsAt (now (s .entry)) r ≡ fieldsAt (now (s .entry)) from ⌝ }
+{
+    let mut i = from;
+    while sixteen_good(s, i) {
+        i += 16;
+    }
+    i
+}
+
+// The same by eights.
+fn good_eights(s: &[u8], from: usize) -> usize
+    requires { ⌜ 1 ≤ from ⌝ }
+    ensures { λ r. ⌜ 1 ≤ r ⌝ }
+    ensures { λ r. ⌜ fieldsAt (now (s .entry)) r ≡ fieldsAt (now (s .entry)) from ⌝ }
+{
+    let mut i = from;
+    while eight_good(s, i) {
+        i += 8;
+    }
+    i
+}
+
+// Whether the other fields are filled, and this one is: the byte before its end is no tab.
+fn still_filled(others: bool, last: u8) -> bool
+    ensures { λ r. ⌜ r ≡ others && not (eqb last tab) ⌝ }
+{
+    if last == TAB { false } else { others }
+}
+
+// The fields from a place behind a tab on. Most bytes stand in good groups; from the first group that is not, they are gone over one by
+// one.
 fn read_fields(s: &[u8], start: usize) -> Fields
+    requires { ⌜ (1 ≤ start) × (byteAt (now s) (start - 1) ≡ tab) ⌝ }
     ensures { λ r. ⌜ r ≡ fieldsFrom true start (drop start (now (s .entry))) ⌝ }
 {
-    let mut from = start;
+    let wide = good_sixteens(s, start);
+    let mut i = good_eights(s, wide);
+    let mut last = byte_at(s, i - 1);
     let mut filled = true;
     loop {
-        let end = plain_end(s, from);
-        filled = still_filled(filled, from, end);
-        if byte_at(s, end) != TAB {
-            return Fields { end, filled };
+        let x = byte_at(s, i);
+        if x == TAB {
+            filled = still_filled(filled, last);
+        } else {
+            if !plain(x) {
+                let all = still_filled(filled, last);
+                return Fields {
+                    end: i,
+                    filled: all,
+                };
+            }
         }
-        from = end + 1;
+        last = x;
+        i += 1;
     }
 }
 
-// The parts of the line that the rest of a text starts with. A byte that a line may not hold stops a run of plain bytes, so no run is
-// gone over twice; only the byte that stopped it is read again.
+// The parts of the line that the rest of a text starts with. A byte that a line may not hold ends the part it stands in, so that no pass
+// of its own looks for one; the byte that ended a part is read again.
 fn cut(rest: &[u8]) -> Parts
     ensures { λ r. ⌜ r ≡ partsOf (before lineFeed (now (rest .entry))) ⌝ }
 {

@@ -2,7 +2,7 @@
 use native.Mathlib.Omega.{arith}
 use denote.Ref.{now}
 use Rattle.line.proofs.Places.{number-high}
-use Rattle.line.proofs.Cutting.{cuts}
+use Rattle.line.proofs.Cutting.{tab-before, cuts}
 use Rattle.line.proofs.cut.Statement.{statement}
 use Rattle.line.proofs.cut.Tie as tie
 
@@ -50,7 +50,10 @@ add-start c = omega (
 )
 
 read-fields-requires : tie.Need-read-fields-requires
-read-fields-requires c κs = search cuts
+read-fields-requires c κs =
+    let s = now (c .before .before .before .before .before .before .before .before .before .args .rest) in
+    let end = c .before .before .before .number-at2 .result .end in
+    (search cuts, tab-before s end _ (c .before .before .byte-at2 .ensures) (c .before .if2 .left))
 
 byte-at-requires-3 : tie.Need-byte-at-requires-3
 byte-at-requires-3 c κs = search cuts
