@@ -1,17 +1,15 @@
 -- The run of plain bytes, as its loop goes. s is a part of a text, i a place in it, `end` the place where the run ends, x a byte, r
 -- the answer of a test. Assumes nothing.
-use mathlib.Core.Path.{_≡_, refl, sym, _∙_, subst}
+use mathlib.Core.Path.{_≡_, refl, sym}
 use mathlib.Core.Bool.{Bool, true, false, _&&_, true≢false}
 use mathlib.Core.List.{List}
-use Prim.Native.Nat.{ℕ, suc, _+_, _-_, _^_, _<_, _≤_}
+use Prim.Native.Nat.{ℕ, suc, _+_, _<_, _≤_}
 use native.Mathlib.Omega.{arith}
 use lib.Dec.{leb}
-use mir.Val.{Fits}
-use mir.Syntax.{w64}
 use lib.ListN.{length, getD, drop}
 use borrow.Author.Needs.{needs}
-use borrow.Author.Tests.{le-leb, lt-leb, leb-true, not-true, not-false}
-use Rattle.text.specs.Reads.{plain, plainRun, fourPlain}
+use borrow.Author.Tests.{le-leb, lt-leb, not-true, not-false}
+use Rattle.text.specs.Reads.{plain, plainRun}
 use Rattle.text.proofs.Places.{left-next, left-none}
 
 -- ---- two tests
@@ -47,64 +45,4 @@ module _ (s : List ℕ) (end i : ℕ) where
       let none : plainRun (drop i s) ≡ 0 = rw (left-none s i h) in
       omega arith
 
--- ---- four bytes at once
-
-pub four-tests : (a b c d A B C D : Bool) → a ≡ A → b ≡ B → c ≡ C → d ≡ D → (a && (b && (c && d))) ≡ (A && (B && (C && D)))
-four-tests a b c d A B C D e f g h = λ i. e i && (f i && (g i && h i))
-
-module _ (s : List ℕ) (i : ℕ) where
-  four-out : length s < i + 4 → false ≡ fourPlain s i
-  four-out h = rw (lt-leb (i + 4) (length s) h)
-
-  pub four-short : length s < 4 → false ≡ fourPlain s i
-  four-short h = four-out (omega arith)
-
-  pub four-late : 4 ≤ length s → length s - 4 < i → false ≡ fourPlain s i
-  four-late h k = four-out (omega arith)
-
-  pub four-here : (r : Bool) → 4 ≤ length s → i ≤ length s - 4
-      → r ≡ (plain (getD s i 0) && (plain (getD s (i + 1) 0) && (plain (getD s (i + 2) 0) && plain (getD s (i + 3) 0))))
-      → r ≡ fourPlain s i
-  four-here r h k e = rw (le-leb (i + 4) (length s) (omega arith)) e
-
-  -- the place is in s, and each of the four is plain
-  pub record Four : Type 0 where
-    pub in-text : leb (i + 4) (length s) ≡ true
-    pub first : plain (getD s i 0) ≡ true
-    pub second : plain (getD s (i + 1) 0) ≡ true
-    pub third : plain (getD s (i + 2) 0) ≡ true
-    pub fourth : plain (getD s (i + 3) 0) ≡ true
-
-  four : fourPlain s i ≡ true → Four
-  four e =
-      let a = both (leb (i + 4) (length s)) _ e in
-      let b = both (plain (getD s i 0)) _ (a .1) in
-      let c = both (plain (getD s (i + 1) 0)) _ (b .1) in
-      let d = both (plain (getD s (i + 2) 0)) _ (c .1) in
-      record { in-text = a .0; first = b .0; second = c .0; third = d .0; fourth = d .1 }
-
-  pub four-in : (r : Bool) → r ≡ fourPlain s i → r ≡ true → i + 4 ≤ length s
-  four-in r e t = leb-true (i + 4) (length s) (four (sym e ∙ t) .in-text)
-
-  pub four-fits : (r : Bool) → length s < 2 ^ 64 → r ≡ fourPlain s i → r ≡ true → Fits w64 (i + 4)
-  four-fits r h e t = record { fits = omega (arith, four-in r e t) }
-
-  pub four-less : (r : Bool) → r ≡ fourPlain s i → r ≡ true → length s - (i + 4) < length s - i
-  four-less r e t = omega (arith, four-in r e t)
-
-  pub four-on : (r : Bool) (end : ℕ) → r ≡ fourPlain s i → r ≡ true → i + plainRun (drop i s) ≡ end
-      → i + 4 + plainRun (drop (i + 4) s) ≡ end
-  four-on r end e t same =
-      let w = four (sym e ∙ t) in
-      let h = four-in r e t in
-      let a = run-on s end i true (omega arith) (sym (w .first)) refl same in
-      let b = run-on s end (i + 1) true (omega arith) (sym (w .second)) refl a in
-      let c = run-on s end (i + 2) true (omega arith) (sym (w .third)) refl (at (omega arith) b) in
-      let d = run-on s end (i + 3) true (omega arith) (sym (w .fourth)) refl (at (omega arith) c) in
-      at (omega arith) d
-    where
-      at : {j k : ℕ} → j ≡ k → j + plainRun (drop j s) ≡ end → k + plainRun (drop k s) ≡ end
-      at q same = subst (λ (k : ℕ). k + plainRun (drop k s) ≡ end) q same
-
-pub ruleset runs =
-    (run-here, run-on, run-end, four-tests, four-short, four-late, four-here, four-fits, four-less, four-on, not-true, not-false, needs)
+pub ruleset runs = (run-here, run-on, run-end, not-true, not-false, needs)

@@ -4,7 +4,7 @@ use mathlib.Core.Bool.{Bool, cond, not, _&&_, _||_}
 use mathlib.Core.List.{List, [], _∷_}
 use Prim.Native.Nat.{ℕ, suc, _+_, _-_, _*_}
 use lib.Dec.{eqb, leb, ltb}
-use lib.ListN.{length, getD, take, drop}
+use lib.ListN.{getD, take, drop}
 use Rattle.rules.specs.Limits.{GREATEST}
 use Rattle.rules.specs.Text.{LF, digit, decimal, valueFrom, value}
 use Rattle.text.specs.declared.Number.{Number}
@@ -21,11 +21,6 @@ plain x = leb 32 x && leb x 126
 abbrev pub plainRun : List ℕ → ℕ
 plainRun [] = 0
 plainRun (x ∷ s) = cond (plain x) (suc (plainRun s)) 0
-
--- four plain bytes stand at a place of s
-abbrev pub fourPlain : List ℕ → ℕ → Bool
-fourPlain s i =
-    leb (i + 4) (length s) && (plain (getD s i 0) && (plain (getD s (i + 1) 0) && (plain (getD s (i + 2) 0) && plain (getD s (i + 3) 0))))
 
 -- the answer for what is no decimal up to the greatest number
 abbrev pub NONE : ℕ

@@ -1,12 +1,11 @@
 // The bytes of a text, read: runs of plain bytes, decimals, ends of lines; and one of some texts.
 use rules::limits::GREATEST;
-ghost use mathlib.Core.Bool.{_&&_};
 ghost use mathlib.Core.List.{[], map};
 ghost use mathlib.Core.Path.{_≡_};
 ghost use Prim.Native.Nat.{_+_, _-_, _<_};
 ghost use lib.ListN.{length, getD, drop};
 ghost use Rattle.rules.specs.Text.{LF as lineFeed, count, ended as endedOf};
-ghost use Rattle.text.specs.Reads.{byteAt, plain as plainOf, plainRun, fourPlain, digitsFrom, opens, numberAt};
+ghost use Rattle.text.specs.Reads.{byteAt, plain as plainOf, plainRun, digitsFrom, opens, numberAt};
 
 pub const TAB: u8 = 9;
 
@@ -34,38 +33,7 @@ pub fn plain(x: u8) -> bool
     x <= 126
 }
 
-// All four bytes are looked at, so that the compiler takes them together.
-fn all_plain(a: u8, b: u8, c: u8, d: u8) -> bool
-    ensures { λ r. ⌜ r ≡ plainOf a && (plainOf b && (plainOf c && plainOf d)) ⌝ }
-{
-    plain(a) & (plain(b) & (plain(c) & plain(d)))
-}
-
-// Whether four plain bytes stand at a place.
-fn four_plain(s: &[u8], i: usize) -> bool
-    ensures { λ r. ⌜ r ≡ fourPlain (now (s .entry)) i ⌝ }
-{
-    if s.len() < 4 {
-        return false;
-    }
-    if s.len() - 4 < i {
-        return false;
-    }
-    all_plain(s[i], s[i + 1], s[i + 2], s[i + 3])
-}
-
-// A place up to which the bytes from a place on are plain, by fours.
-fn plain_fours(s: &[u8], from: usize) -> usize
-    ensures { λ r. ⌜ r + plainRun (drop r (now (s .entry))) ≡ from + plainRun (drop from (now (s .entry))) ⌝ }
-{
-    let mut i = from;
-    while four_plain(s, i) {
-        i += 4;
-    }
-    i
-}
-
-// Where the plain bytes from a place on end, byte by byte.
+// Where the plain bytes from a place on end.
 fn plain_rest(s: &[u8], from: usize) -> usize
     ensures { λ r. ⌜ r ≡ from + plainRun (drop from (now (s .entry))) ⌝ }
 {
@@ -77,14 +45,6 @@ fn plain_rest(s: &[u8], from: usize) -> usize
         i += 1;
     }
     i
-}
-
-// The same. Most stand in runs of four and more.
-pub fn plain_end(s: &[u8], from: usize) -> usize
-    ensures { λ r. ⌜ r ≡ from + plainRun (drop from (now (s .entry))) ⌝ }
-{
-    let i = plain_fours(s, from);
-    plain_rest(s, i)
 }
 
 // The plain bytes from a place on: where they end, and the number that they write.

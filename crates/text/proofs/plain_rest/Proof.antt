@@ -13,35 +13,35 @@ Inv-loop s from i₀ i = i + plainRun (drop i s) ≡ from + plainRun (drop from 
 abbrev μ-loop : tie.MeasureT-loop
 μ-loop s from i₀ i = length s - i
 
--- src/lib.rt:73:5
+-- src/lib.rt:41:5
 loop-holds : tie.Need-loop-holds Inv-loop μ-loop
 loop-holds c = search runs
 
--- src/lib.rt:74:19
+-- src/lib.rt:42:19
 shared-slice-read-plain : tie.Need-shared-slice-read-plain Inv-loop μ-loop
 shared-slice-read-plain c = search runs
 
--- src/lib.rt:74:13
+-- src/lib.rt:42:13
 plain-requires : tie.Need-plain-requires Inv-loop μ-loop
 plain-requires c κs = search runs
 
--- src/lib.rt:75:13
+-- src/lib.rt:43:13
 returns : tie.Need-returns Inv-loop μ-loop
 returns c = search runs
 
--- src/lib.rt:77:9
+-- src/lib.rt:45:9
 add-i : tie.Need-add-i Inv-loop μ-loop
 add-i c = search runs
 
--- src/lib.rt:73:5
+-- src/lib.rt:41:5
 loop-less : tie.Need-loop-less Inv-loop μ-loop
 loop-less c = search runs
 
--- src/lib.rt:73:5
+-- src/lib.rt:41:5
 loop-again : tie.Need-loop-again Inv-loop μ-loop
 loop-again c = search runs
 
--- src/lib.rt:69:1
+-- src/lib.rt:37:1
 returns-2 : tie.Need-returns-2 Inv-loop μ-loop
 returns-2 c = search runs
 

@@ -6,15 +6,15 @@ use Rattle.text.proofs.text_of.Tie as tie
 use Rattle.text.proofs.text_of.Reads as reads
 use Rattle.text.proofs.text_of.Lts as lts
 
--- src/lib.rt:187:5
+-- src/lib.rt:147:5
 mul-result : tie.Need-mul-result
 mul-result c = search needs
 
--- src/lib.rt:187:5
+-- src/lib.rt:147:5
 shared-slice-copy-out-result : tie.Need-shared-slice-copy-out-result
 shared-slice-copy-out-result c = search needs
 
--- src/lib.rt:183:1
+-- src/lib.rt:143:1
 returns : tie.Need-returns
 returns c = search texts
 
