@@ -60,7 +60,8 @@ fn write_row<'a>(
     write_line(n, r, content, out, at)
 }
 
-// A record, then its list. Most records have no child, and are spared the call.
+// A record, then its list. Most records have no child, and are spared the call. Where its list begins is asked for before its line is
+// written, so that the answer need not wait for the bytes.
 fn write_record<'a>(
     texts: &[&'a [u8]],
     lines: &[u16; NUMBERS],
@@ -75,9 +76,9 @@ fn write_record<'a>(
         ⌜ RecordWritten (map now (now (texts .entry))) (now (lines .entry)) (now (facts .entry)) r n
         (now (out .entry)) (now (out .exit)) (p .at) (p .left) (z .at) (z .left) ⌝ }
 {
+    let first = field(lines, facts, n, FIRST);
     let at = write_row(texts, lines, facts, out, p.at, r, n);
     let left = p.left - 1;
-    let first = field(lines, facts, n, FIRST);
     let q = Progress { at, left };
     if first == Record::END.number {
         return q;
@@ -85,7 +86,7 @@ fn write_record<'a>(
     write_list(texts, lines, facts, out, q, n, first)
 }
 
-// The records of a list from `n` on, each with all below it.
+// The records of a list from `n` on, each with all below it. The next is asked for before one is written, for the same reason.
 fn write_list<'a>(
     texts: &[&'a [u8]],
     lines: &[u16; NUMBERS],
@@ -103,8 +104,9 @@ fn write_list<'a>(
     let mut q = p;
     let mut next = n;
     while next != Record::END.number {
+        let after = field(lines, facts, next, FOLLOWER);
         q = write_record(texts, lines, facts, out, q, r, next);
-        next = field(lines, facts, next, FOLLOWER);
+        next = after;
     }
     q
 }

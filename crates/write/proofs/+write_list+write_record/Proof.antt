@@ -50,152 +50,152 @@ write-list-Inv-loop texts lines facts out₀ r n q₀ next₀ out q next =
 abbrev write-list-μ-loop : write-list-lts.MeasureT-loop
 write-list-μ-loop texts lines facts out₀ r n q₀ next₀ out q next = q .left
 
--- src/lib.rt:105:5
+-- src/lib.rt:106:5
 write-list-loop-holds : (t : ℕ) → write-list-lts.Need-loop-holds (
-  write-record-below t,
-  write-record.Post,
   field-reads.Asked,
   field-reads.Learnt,
+  write-record-below t,
+  write-record.Post,
 ) (write-list-at t) write-list.Post write-list-Inv-loop write-list-μ-loop
 write-list-loop-holds t c = search lists
 
--- src/lib.rt:106:9
-write-list-write-record-requires : (t : ℕ) → write-list-lts.Need-write-record-requires (
-  write-record-below t,
-  write-record.Post,
-  field-reads.Asked,
-  field-reads.Learnt,
-) (write-list-at t) write-list.Post write-list-Inv-loop write-list-μ-loop
-write-list-write-record-requires t c κs = search lists
-
--- src/lib.rt:107:9
+-- src/lib.rt:107:13
 write-list-field-requires : (t : ℕ) → write-list-lts.Need-field-requires (
-  write-record-below t,
-  write-record.Post,
   field-reads.Asked,
   field-reads.Learnt,
+  write-record-below t,
+  write-record.Post,
 ) (write-list-at t) write-list.Post write-list-Inv-loop write-list-μ-loop
 write-list-field-requires t c κs = search lists
 
--- src/lib.rt:105:5
-write-list-loop-less : (t : ℕ) → write-list-lts.Need-loop-less (
-  write-record-below t,
-  write-record.Post,
+-- src/lib.rt:108:9
+write-list-write-record-requires : (t : ℕ) → write-list-lts.Need-write-record-requires (
   field-reads.Asked,
   field-reads.Learnt,
+  write-record-below t,
+  write-record.Post,
+) (write-list-at t) write-list.Post write-list-Inv-loop write-list-μ-loop
+write-list-write-record-requires t c κs = search lists
+
+-- src/lib.rt:106:5
+write-list-loop-less : (t : ℕ) → write-list-lts.Need-loop-less (
+  field-reads.Asked,
+  field-reads.Learnt,
+  write-record-below t,
+  write-record.Post,
 ) (write-list-at t) write-list.Post write-list-Inv-loop write-list-μ-loop
 write-list-loop-less t c = search lists
 
--- src/lib.rt:105:5
+-- src/lib.rt:106:5
 write-list-loop-again : (t : ℕ) → write-list-lts.Need-loop-again (
-  write-record-below t,
-  write-record.Post,
   field-reads.Asked,
   field-reads.Learnt,
+  write-record-below t,
+  write-record.Post,
 ) (write-list-at t) write-list.Post write-list-Inv-loop write-list-μ-loop
 write-list-loop-again t c = search lists
 
--- src/lib.rt:89:1
+-- src/lib.rt:90:1
 write-list-same-length : (t : ℕ) → write-list-lts.Need-same-length (
-  write-record-below t,
-  write-record.Post,
   field-reads.Asked,
   field-reads.Learnt,
+  write-record-below t,
+  write-record.Post,
 ) (write-list-at t) write-list.Post write-list-Inv-loop write-list-μ-loop
 write-list-same-length t c = search lists
 
--- src/lib.rt:89:1
+-- src/lib.rt:90:1
 write-list-returns : (t : ℕ) → write-list-lts.Need-returns (
-  write-record-below t,
-  write-record.Post,
   field-reads.Asked,
   field-reads.Learnt,
+  write-record-below t,
+  write-record.Post,
 ) (write-list-at t) write-list.Post write-list-Inv-loop write-list-μ-loop
 write-list-returns t c = search lists
 
--- src/lib.rt:78:9
-write-record-write-row-requires : (t : ℕ) → write-record-lts.Need-write-row-requires (
-  write-row-reads.Asked,
-  write-row-reads.Learnt,
-  field-reads.Asked,
-  field-reads.Learnt,
-  write-list-below t,
-  write-list.Post,
-) (write-record-at t) write-record.Post
-write-record-write-row-requires t c κs = search records
-
--- src/lib.rt:79:16
-write-record-sub-left : (t : ℕ) → write-record-lts.Need-sub-left (
-  write-row-reads.Asked,
-  write-row-reads.Learnt,
-  field-reads.Asked,
-  field-reads.Learnt,
-  write-list-below t,
-  write-list.Post,
-) (write-record-at t) write-record.Post
-write-record-sub-left t c = search records
-
--- src/lib.rt:80:9
+-- src/lib.rt:79:9
 write-record-field-requires : (t : ℕ) → write-record-lts.Need-field-requires (
-  write-row-reads.Asked,
-  write-row-reads.Learnt,
   field-reads.Asked,
   field-reads.Learnt,
+  write-row-reads.Asked,
+  write-row-reads.Learnt,
   write-list-below t,
   write-list.Post,
 ) (write-record-at t) write-record.Post
 write-record-field-requires t c κs = search records
 
--- src/lib.rt:83:9
-write-record-same-length : (t : ℕ) → write-record-lts.Need-same-length (
-  write-row-reads.Asked,
-  write-row-reads.Learnt,
+-- src/lib.rt:80:9
+write-record-write-row-requires : (t : ℕ) → write-record-lts.Need-write-row-requires (
   field-reads.Asked,
   field-reads.Learnt,
+  write-row-reads.Asked,
+  write-row-reads.Learnt,
+  write-list-below t,
+  write-list.Post,
+) (write-record-at t) write-record.Post
+write-record-write-row-requires t c κs = search records
+
+-- src/lib.rt:81:16
+write-record-sub-left : (t : ℕ) → write-record-lts.Need-sub-left (
+  field-reads.Asked,
+  field-reads.Learnt,
+  write-row-reads.Asked,
+  write-row-reads.Learnt,
+  write-list-below t,
+  write-list.Post,
+) (write-record-at t) write-record.Post
+write-record-sub-left t c = search records
+
+-- src/lib.rt:84:9
+write-record-same-length : (t : ℕ) → write-record-lts.Need-same-length (
+  field-reads.Asked,
+  field-reads.Learnt,
+  write-row-reads.Asked,
+  write-row-reads.Learnt,
   write-list-below t,
   write-list.Post,
 ) (write-record-at t) write-record.Post
 write-record-same-length t c = search records
 
--- src/lib.rt:83:9
+-- src/lib.rt:84:9
 write-record-returns : (t : ℕ) → write-record-lts.Need-returns (
-  write-row-reads.Asked,
-  write-row-reads.Learnt,
   field-reads.Asked,
   field-reads.Learnt,
+  write-row-reads.Asked,
+  write-row-reads.Learnt,
   write-list-below t,
   write-list.Post,
 ) (write-record-at t) write-record.Post
 write-record-returns t c = search records
 
--- src/lib.rt:85:5
+-- src/lib.rt:86:5
 write-record-write-list-requires : (t : ℕ) → write-record-lts.Need-write-list-requires (
-  write-row-reads.Asked,
-  write-row-reads.Learnt,
   field-reads.Asked,
   field-reads.Learnt,
+  write-row-reads.Asked,
+  write-row-reads.Learnt,
   write-list-below t,
   write-list.Post,
 ) (write-record-at t) write-record.Post
 write-record-write-list-requires t c κs = search records
 
--- src/lib.rt:64:1
+-- src/lib.rt:65:1
 write-record-same-length-2 : (t : ℕ) → write-record-lts.Need-same-length-2 (
-  write-row-reads.Asked,
-  write-row-reads.Learnt,
   field-reads.Asked,
   field-reads.Learnt,
+  write-row-reads.Asked,
+  write-row-reads.Learnt,
   write-list-below t,
   write-list.Post,
 ) (write-record-at t) write-record.Post
 write-record-same-length-2 t c = search records
 
--- src/lib.rt:64:1
+-- src/lib.rt:65:1
 write-record-returns-2 : (t : ℕ) → write-record-lts.Need-returns-2 (
-  write-row-reads.Asked,
-  write-row-reads.Learnt,
   field-reads.Asked,
   field-reads.Learnt,
+  write-row-reads.Asked,
+  write-row-reads.Learnt,
   write-list-below t,
   write-list.Post,
 ) (write-record-at t) write-record.Post
@@ -203,35 +203,35 @@ write-record-returns-2 t c = search records
 
 pub +write-list+write-record-spec : {M : Type 1} → statement M
 +write-list+write-record-spec = close μ-write-list μ-write-record (λ t. write-list-lts.spec (
-  write-record-below t,
-  write-record.Post,
   field-reads.Asked,
   field-reads.Learnt,
+  write-record-below t,
+  write-record.Post,
 )
     (write-list-at t)
     write-list.Post
     write-list-Inv-loop
     write-list-μ-loop
     (write-list-loop-holds t)
-    (write-list-write-record-requires t)
     (write-list-field-requires t)
+    (write-list-write-record-requires t)
     (write-list-loop-less t)
     (write-list-loop-again t)
     (write-list-same-length t)
     (write-list-returns t))
     λ t. write-record-lts.spec (
-      write-row-reads.Asked,
-      write-row-reads.Learnt,
       field-reads.Asked,
       field-reads.Learnt,
+      write-row-reads.Asked,
+      write-row-reads.Learnt,
       write-list-below t,
       write-list.Post,
     )
     (write-record-at t)
     write-record.Post
+    (write-record-field-requires t)
     (write-record-write-row-requires t)
     (write-record-sub-left t)
-    (write-record-field-requires t)
     (write-record-same-length t)
     (write-record-returns t)
     (write-record-write-list-requires t)

@@ -8,19 +8,19 @@ use Rattle.write.proofs.write_table.Lts as lts
 use Rattle.facts.proofs.field.Reads as field-reads
 use Rattle.write.proofs.write_list.Reads as write-list-reads
 
--- src/lib.rt:126:9
+-- src/lib.rt:128:9
 field-requires : tie.Need-field-requires
 field-requires c κs = search needs
 
--- src/lib.rt:127:5
+-- src/lib.rt:129:5
 write-list-requires : tie.Need-write-list-requires
 write-list-requires c κs = search tables
 
--- src/lib.rt:113:1
+-- src/lib.rt:115:1
 same-length : tie.Need-same-length
 same-length c = search needs
 
--- src/lib.rt:113:1
+-- src/lib.rt:115:1
 returns : tie.Need-returns
 returns c = search tables
 
