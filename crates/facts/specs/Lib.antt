@@ -2,3 +2,4 @@
 pub mod Memory
 pub mod Holds
 pub mod Asked
+pub mod Order

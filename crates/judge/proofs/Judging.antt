@@ -251,6 +251,7 @@ module _ (texts lines facts : List (List ℕ)) (counts : List ℕ) (long : lengt
               (no-place (lostEdits O Bs) low-lost (sym is-lost ∙ h))
               ∙ ap merged is-tree;
           stored = stored;
+          order = laid .order;
           counted = sym (laid .size);
           entries = entries-same;
         }

@@ -15,6 +15,7 @@ use Rattle.rules.specs.Facts.{factsOf}
 use Rattle.rules.specs.Merge.{refused, merged, merge}
 use Rattle.rules.specs.Ledger.{entriesOf}
 use Rattle.facts.specs.Memory.{TABLES}
+use Rattle.facts.specs.Order.{InWrittenOrder}
 use Rattle.write.specs.Stored.{Stored}
 use Rattle.ledger.specs.Entries.{entriesIn}
 use Rattle.edits.specs.Least.{NONE}
@@ -34,11 +35,13 @@ firstClash c =
     (told parentClash (c .parent) 0))
     (told contentClash (c .content) 0)
 
--- the merged tree lies in memory as a table of so many records, with the contents and origins that the rules give them
+-- the merged tree lies in memory as a table of so many records, their lines in written order, with the contents and origins that the rules
+-- give them
 pub record MergedIn (texts : List (List ℕ)) (ls fs : List ℕ) (old : List Row) (branches : List (List Row)) (count : ℕ) : Type 0 where
   pub t : List Row
   pub is : merge (factsOf old) (map factsOf branches) ≡ merged (treeOf t)
   pub stored : Stored texts ls fs t
+  pub order : InWrittenOrder fs t
   pub counted : count ≡ length t
   pub entries : entriesIn ls fs t ≡ entriesOf old branches (treeOf t)
 

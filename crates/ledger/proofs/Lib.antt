@@ -1,6 +1,7 @@
--- Laws of the ledger: its lines, the way through memory in written order, and its length by the lines of memory.
+-- Laws of the ledger: its lines, how they are written one after the other, its length by the lines of memory, and that these are the
+-- table's records where they stand in written order.
 pub mod Lines
-pub mod Ways
 pub mod Going
 pub mod Widths
+pub mod Ordered
 pub mod Lengths

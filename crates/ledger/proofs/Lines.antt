@@ -1,5 +1,5 @@
 -- The lines of a ledger: how long each is, and what was put, one after the other, makes it up. o is the buffer, with a number for each
--- state of it; p and q are places, ls and fs the two arrays, n is a record, e an entry. Assumes nothing.
+-- state of it; p and q are places, fs is the array of facts, l a line, n a record, e an entry. Assumes nothing.
 use mathlib.Core.Path.{_≡_, sym, ap, _∙_, subst}
 use mathlib.Core.List.{List, [], _∷_, _++_}
 use Prim.Native.Nat.{ℕ, _+_, _≤_}
@@ -12,10 +12,10 @@ use Rattle.rules.specs.Text.{TAB, LF}
 use Rattle.rules.specs.Written.{digits, width}
 use Rattle.rules.specs.Ledger.{Entry, entryLine}
 use Rattle.readback.proofs.Decimals.{digits-length}
-use Rattle.facts.specs.Memory.{PLACE, LENGTH, originOf, field}
+use Rattle.facts.specs.Memory.{NUMBER, PLACE, LENGTH, originOf, fieldOn}
 use Rattle.bytes.specs.Put.{Put, numberField}
 use Rattle.bytes.proofs.Puts.{put-then, put-byte}
-use Rattle.ledger.specs.Entries.{entryAt, lineEnd, totalOf}
+use Rattle.ledger.specs.Entries.{entryOn, lineEnd, totalOf}
 use Rattle.ledger.specs.Sums.{totalLength}
 
 -- ---- how long
@@ -47,22 +47,23 @@ total-put a b x y = put-then x y
 
 pub ruleset ends = (end-put, total-put, needs)
 
-pub entry-first : (ls fs : List ℕ) (n at room : ℕ) → at + length (entryLine (entryAt ls fs n)) ≤ room → at + (width n + 1) ≤ room
-entry-first ls fs n at room h = omega (arith, entry-length (entryAt ls fs n))
+module _ (fs : List ℕ) (l n place long : ℕ) (h : n ≡ fieldOn fs l NUMBER) (i : place ≡ fieldOn fs l PLACE)
+    (j : long ≡ fieldOn fs l LENGTH) where
+  same-entry : entryOn fs l ≡ record { number = n; origin = originOf place; bytes = long }
+  same-entry = rw (h, i, j)
 
-module _ (ls fs : List ℕ) (n place long : ℕ) (i : place ≡ field ls fs n PLACE) (j : long ≡ field ls fs n LENGTH) where
-  same-entry : entryAt ls fs n ≡ record { number = n; origin = originOf place; bytes = long }
-  same-entry = rw (i, j)
-
-  same-length : length (entryLine (entryAt ls fs n)) ≡ 3 + width n + width (originOf place) + width long
+  same-length : length (entryLine (entryOn fs l)) ≡ 3 + width n + width (originOf place) + width long
   same-length = ap (λ (e : Entry). length (entryLine e)) same-entry ∙ entry-length _
 
-  pub entry-rest : {o o₁ : List ℕ} {at p : ℕ} → at + length (entryLine (entryAt ls fs n)) ≤ length o → Put o o₁ at p (numberField n)
+  pub entry-first : (at room : ℕ) → at + length (entryLine (entryOn fs l)) ≤ room → at + (width n + 1) ≤ room
+  entry-first at room f = omega (arith, same-length)
+
+  pub entry-rest : {o o₁ : List ℕ} {at p : ℕ} → at + length (entryLine (entryOn fs l)) ≤ length o → Put o o₁ at p (numberField n)
       → p ≡ at + (width n + 1) → p + (2 + width (originOf place) + width long) ≤ length o₁
-  entry-rest h x e = omega (arith, same-length, x .long)
+  entry-rest f x e = omega (arith, same-length, x .long)
 
   pub entry-put : {o o₁ o₂ : List ℕ} {at p q : ℕ} → Put o o₁ at p (numberField n) → Put o₁ o₂ p q (lineEnd (originOf place) long)
-      → Put o o₂ at q (entryLine (entryAt ls fs n))
+      → Put o o₂ at q (entryLine (entryOn fs l))
   entry-put {o} {o₁} {o₂} {at} {p} {q} x y =
       subst (Put o o₂ at q) (append-snoc (digits n) TAB (lineEnd (originOf place) long) ∙ ap entryLine (sym same-entry)) (put-then x y)
 

@@ -1,5 +1,5 @@
--- The lengths of a table's written form and of its ledger, summed over the lines of memory, in whatever order they stand there. fs is the
--- array of facts, l a line. Assumes nothing.
+-- The lengths of a table's written form and of its ledger, summed over the lines of memory. fs is the array of facts, l a line. Assumes
+-- nothing.
 use mathlib.Core.List.{List}
 use Prim.Native.Nat.{ℕ, zero, suc, _+_}
 use Rattle.rules.specs.Written.{width}

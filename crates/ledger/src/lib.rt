@@ -1,31 +1,26 @@
-// The ledger of a table in memory: its length, summed over the lines of memory, and its bytes, written in written order by going along the
-// links. r is a parent, n a record or END, l a line, k a field.
+// The ledger of a table whose lines stand in memory in written order: its length, summed over the lines, and its bytes, written line after
+// line. No link is followed, and no number looked up. n is a record, r a parent, l a line.
 use bytes::copy;
 use bytes::width;
 use bytes::write_digits;
 use bytes::write_field;
 use facts::FACTS;
-use facts::FIRST;
-use facts::FOLLOWER;
 use facts::LENGTH;
 use facts::NUMBER;
-use facts::NUMBERS;
 use facts::PARENT;
 use facts::PLACE;
 use facts::SPAN;
 use facts::TEXTS;
-use facts::field;
 use facts::field_on;
-use rules::record::Record;
 use text::LF;
 ghost use mathlib.Core.Path.{_≡_};
-ghost use Prim.Native.Nat.{_+_, _<_, _≤_};
+ghost use Prim.Native.Nat.{_+_, _-_, _<_, _≤_, min};
 ghost use lib.ListN.{length};
-ghost use Rattle.rules.specs.Written.{width as widthOf};
-ghost use Rattle.rules.specs.Ledger.{entryLine};
+ghost use Rattle.rules.specs.Written.{width as widthOf, over};
+ghost use Rattle.rules.specs.Ledger.{entryLine, ledger};
 ghost use Rattle.facts.specs.Memory.{ROOM};
 ghost use Rattle.bytes.specs.Put.{Put};
-ghost use Rattle.ledger.specs.Entries.{entryAt, lineEnd, totalOf, LedgerReady, LedgerWritten};
+ghost use Rattle.ledger.specs.Entries.{entryOn, entriesTo, lineEnd, totalOf, LedgerReady};
 ghost use Rattle.ledger.specs.Sums.{frameLine, ledgerLine, lineBytes, totalLength, sumsOf};
 
 // How long the written table and its ledger are, and how many bytes the contents have.
@@ -42,6 +37,23 @@ fn long(x: u32) -> usize
     ensures { λ r. ⌜ (r ≡ x) × (r < 4294967296) ⌝ }
 {
     x as usize
+}
+
+// 1 for a number above `k`, otherwise 0.
+fn above(n: u32, k: u32) -> usize
+    ensures { λ r. ⌜ r ≡ min 1 (n - k) ⌝ }
+    ensures { λ r. ⌜ r ≤ 1 ⌝ }
+{
+    if k < n { 1 } else { 0 }
+}
+
+// How many digits a number has. `width` answers the same by branches, which writing wants: there the place of the next byte waits for the
+// answer. Here nothing waits for it, and without branches none is mispredicted in a sum over all lines.
+fn digit_count(n: u32) -> usize
+    ensures { λ r. ⌜ r ≡ widthOf n ⌝ }
+    ensures { λ r. ⌜ r ≤ 6 ⌝ }
+{
+    1 + above(n, 9) + above(n, 99) + above(n, 999) + above(n, 9999) + above(n, 99999)
 }
 
 // the bytes of the content
@@ -61,7 +73,7 @@ fn frame_line(facts: &[u32; FACTS], l: usize) -> usize
 {
     let n = field_on(facts, l, NUMBER);
     let r = field_on(facts, l, PARENT);
-    3 + width(n) + width(r)
+    3 + digit_count(n) + digit_count(r)
 }
 
 // what it takes in the ledger
@@ -73,7 +85,7 @@ fn ledger_line(facts: &[u32; FACTS], l: usize) -> usize
     let n = field_on(facts, l, NUMBER);
     let place = field_on(facts, l, PLACE);
     let bytes = field_on(facts, l, LENGTH);
-    3 + width(n) + width(place / SPAN / TEXTS) + width(bytes)
+    3 + digit_count(n) + digit_count(place / SPAN / TEXTS) + digit_count(bytes)
 }
 
 // How many digits a sum has; no sum that is written has more than six.
@@ -132,20 +144,14 @@ pub fn write_end(a: u32, b: u32, out: &mut [u8], at: usize) -> usize
     q + 1
 }
 
-// The line of a record.
-fn write_entry(
-    lines: &[u16; NUMBERS],
-    facts: &[u32; FACTS],
-    out: &mut [u8],
-    at: usize,
-    n: u32,
-) -> usize
-    requires { ⌜ at + length (entryLine (entryAt (now lines) (now facts) n)) ≤ length (now out) ⌝ }
-    ensures { λ z.
-        ⌜ Put (now (out .entry)) (now (out .exit)) at z (entryLine (entryAt (now (lines .entry)) (now (facts .entry)) n)) ⌝ }
+// The line of the record on a line of memory.
+fn write_entry(facts: &[u32; FACTS], out: &mut [u8], at: usize, l: usize) -> usize
+    requires { ⌜ (l < ROOM) × (at + length (entryLine (entryOn (now facts) l)) ≤ length (now out)) ⌝ }
+    ensures { λ z. ⌜ Put (now (out .entry)) (now (out .exit)) at z (entryLine (entryOn (now (facts .entry)) l)) ⌝ }
 {
-    let place = field(lines, facts, n, PLACE);
-    let bytes = field(lines, facts, n, LENGTH);
+    let n = field_on(facts, l, NUMBER);
+    let place = field_on(facts, l, PLACE);
+    let bytes = field_on(facts, l, LENGTH);
     let p = write_field(n, out, at);
     write_end(place / SPAN / TEXTS, bytes, out, p)
 }
@@ -159,33 +165,16 @@ fn write_total(records: u32, bytes: u32, out: &mut [u8], at: usize) -> usize
     write_end(records, bytes, out, p)
 }
 
-// The ledger of a table of `count` records and `bytes` of content, from byte 0 on. `n` is who comes next in the list of `r`. After a record
-// comes its list; where a list ends, the one that its parent stands in goes on behind the parent.
-pub fn write_ledger(
-    lines: &[u16; NUMBERS],
-    facts: &[u32; FACTS],
-    out: &mut [u8],
-    count: usize,
-    bytes: usize,
-)
-    requires { ⌜ LedgerReady (now lines) (now facts) count bytes (length (now out)) ⌝ }
-    ensures { λ z. ⌜ LedgerWritten (now (lines .entry)) (now (facts .entry)) (now (out .entry)) (now (out .exit)) ⌝ }
+// The ledger of the lines of `count` records that have `bytes` of content, from byte 0 on.
+pub fn write_ledger(facts: &[u32; FACTS], out: &mut [u8], count: usize, bytes: usize)
+    requires { ⌜ LedgerReady (now facts) count bytes (length (now out)) ⌝ }
+    ensures { λ z. ⌜ now (out .exit) ≡ over (ledger (entriesTo (now (facts .entry)) count)) (now (out .entry)) ⌝ }
 {
     let mut at: usize = 0;
-    let mut r = Record::TOP.number;
-    let mut n = field(lines, facts, r, FIRST);
-    loop {
-        if n != Record::END.number {
-            at = write_entry(lines, facts, out, at, n);
-            r = n;
-            n = field(lines, facts, r, FIRST);
-            continue;
-        }
-        if r == Record::TOP.number {
-            break;
-        }
-        n = field(lines, facts, r, FOLLOWER);
-        r = field(lines, facts, r, PARENT);
+    let mut l: usize = 0;
+    while l < count {
+        l += 1;
+        at = write_entry(facts, out, at, l);
     }
     write_total(count as u32, bytes as u32, out, at);
 }

@@ -64,7 +64,7 @@ module _ (texts lines facts : List (List ℕ)) (counts : List ℕ) where
       pub pack-ready : Ready texts lines facts counts → PackReady texts ls fs (z .count)
       pack-ready r =
           let m = j .tree (r .old) (r .branches) (r .tables) passed in
-          record { t = m .t; stored = m .stored; counted = m .counted; few = few }
+          record { t = m .t; stored = m .stored; order = m .order; counted = m .counted; few = few }
 
       pub merge-packed : (table ledger : List ℕ) (m : Merged) (table′ ledger′ : List ℕ)
           → Packs texts ls fs (z .count) table ledger m table′ ledger′ → MergesTables texts lines facts counts table ledger m table′ ledger′
@@ -77,6 +77,6 @@ module _ (texts lines facts : List (List ℕ)) (counts : List ℕ) where
               subst (λ (o : Outcome). Ends o table ledger m table′ ledger′)
               (ap (λ (es : List Entry). packed (treeOf (w .t)) es (length table) (length ledger)) (w .entries)
               ∙ sym (outcome-merged old branches (length table) (length ledger) (treeOf (w .t)) (w .is)))
-              (p .all (w .t) (w .stored) (w .counted))
+              (p .all (w .t) (w .stored) (w .order) (w .counted))
 
 pub ruleset merges = (ready-few, merge-refused, pack-ready, merge-packed, needs)

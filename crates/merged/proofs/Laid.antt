@@ -1,12 +1,12 @@
--- When the list of every line is laid: the table is the tree along the followers, and its least broken list is told. nx says who follows
--- whom, `part` where the content of a record lies, ct what it is; ls and fs are the two arrays, i is past the last line; q is a parent, a
--- a fact. Assumes nothing.
+-- When no list is on the path any more: the table is the tree along the followers, in written order, and its least broken list is told.
+-- nx says who follows whom, `part` where the content of a record lies, ct what it is; ls and fs are the two arrays; q is a parent, a a
+-- fact. Assumes nothing.
 use mathlib.Core.Path.{_≡_, sym, ap, _∙_, subst}
 use mathlib.Core.Logic.{_⊎_, inl, inr}
 use mathlib.Core.Bool.{Bool, not}
-use mathlib.Core.Option.{none, some}
-use mathlib.Core.List.{List, [], _∷_, map, Memᴰ·cast, Memᴰ·map, Memᴰ·of-map, List·Memᴰ·append-cases}
-use mathlib.Core.List.{List·Memᴰ·eq-of-singleton}
+use mathlib.Core.Option.{some}
+use mathlib.Core.List.{List, [], _∷_, append-nil, map, Memᴰ·cast, Memᴰ·map, Memᴰ·of-map, List·Memᴰ·append-cases}
+use mathlib.Core.List.{List·Memᴰ·eq-of-singleton, List·Memᴰ·not-nil}
 use Prim.Native.Nat.{ℕ, _<_}
 use native.Mathlib.Omega.{arith}
 use lib.Dec.{T, T-not, not-T}
@@ -15,46 +15,35 @@ use Rattle.rules.specs.Marks.{TOP, START, END, isRecord}
 use Rattle.rules.specs.Text.{last}
 use Rattle.rules.specs.Line.{Content, Row}
 use Rattle.rules.specs.Table.{numbers}
-use Rattle.rules.specs.Tree.{STEPS, Tree, childNumbers, treeOf}
+use Rattle.rules.specs.Tree.{STEPS, Tree, childNumbers, numbersIn, treeOf}
 use Rattle.rules.specs.Facts.{ContentFact, PositionFact, contentOf, factsOf, lacking, position, samePosition, treePositions}
 use Rattle.rules.specs.Merge.{follower, walk}
 use Rattle.rules.specs.Demands.{TreeOf}
 use Rattle.rules.specs.declared.answers.Part.{Part}
 use Rattle.trees.proofs.Lists.{keep-in, keep-out}
-use Rattle.trees.proofs.Marks.{record-low}
 use Rattle.trees.proofs.Kept.{has-in, has-out}
 use Rattle.trees.proofs.Disagreeing.{parentOf, position-tells}
 use Rattle.trees.proofs.OneTable.{content-row, in-table, list-in}
 use Rattle.trees.proofs.LineByLine.{Open, list-closed, openFacts}
-use Rattle.trees.proofs.Walk.{Goes, follow, step-is, step-none}
+use Rattle.trees.proofs.Walk.{Goes, follow}
 use Rattle.trees.proofs.Reached.{tree-small}
 use Rattle.trees.proofs.TableTree.{tree-of-table}
-use Rattle.facts.specs.Memory.{lineAt}
+use Rattle.facts.specs.Order.{InWrittenOrder, numbersTo}
 use Rattle.facts.proofs.Views.{after-low}
 use Rattle.facts.proofs.Shown.{fact-parent, list-end, shown}
 use Rattle.edits.specs.Least.{NONE, leastOr}
 use Rattle.edits.proofs.Best.{least-is}
-use Rattle.merged.specs.Laying.{Broken, Spread, Steps}
+use Rattle.merged.specs.Laying.{Steps}
+use Rattle.merged.proofs.Path.{Broken, Spread, step-off, step-on}
 use Rattle.merged.proofs.Ending.{known-low}
 
 module _ {nx : ℕ → ℕ → ℕ} {part : ℕ → Part} {kept : List PositionFact} {known : List ℕ} {ct : ℕ → Content} {ls fs : List ℕ}
-    {i p count broken : ℕ} (st : Steps nx kept known) (g : Spread nx part known ct ls fs i p count broken) (over : count < i) where
+    {p count broken : ℕ} (st : Steps nx kept known) (g : Spread nx part kept known ct ls fs [] p count broken) where
   abbrev t : List Row
   t = g .rows
 
   abbrev ended : ℕ → ℕ
   ended q = last START (childNumbers q t)
-
-  all : (q : ℕ) → lineAt ls q < i
-  all q = omega (arith, g .holds .few q, g .size)
-
-  -- ---- the walk along the kept facts
-
-  step-on : (r b : ℕ) → T (isRecord (nx r b)) → follower kept r b ≡ some (nx r b)
-  step-on r b h = step-is kept (st .calm) r b (nx r b) h (st .goes r b (record-low (nx r b) h))
-
-  step-off : (r b : ℕ) → (T (isRecord (nx r b)) → ⊥) → follower kept r b ≡ none
-  step-off r b h = step-none kept r b (λ n i m. h (subst (λ (z : ℕ). T (isRecord z)) (sym (st .kept-goes r b n m)) i))
 
   -- a fact of the table: a step, or the end of a list
   abbrev Way : PositionFact → Type 0
@@ -74,11 +63,11 @@ module _ {nx : ℕ → ℕ → ℕ} {part : ℕ → Part} {kept : List PositionF
     where
       go : Way a → Goes (follower kept) a
       go (inl e) = (
-        λ d. step-off (a .parent) (a .before) (λ k. subst (λ (z : ℕ). T (isRecord z)) (e ∙ d) k),
-        λ k. step-on (a .parent) (a .before) (subst (λ (z : ℕ). T (isRecord z)) (sym e) k) ∙ ap some e,
+        λ d. step-off st (a .parent) (a .before) (λ k. subst (λ (z : ℕ). T (isRecord z)) (e ∙ d) k),
+        λ k. step-on st (a .parent) (a .before) (subst (λ (z : ℕ). T (isRecord z)) (sym e) k) ∙ ap some e,
       )
       go (inr e) = (
-        λ d. step-off (a .parent) (a .before) (λ k. g .done (a .parent) (fact-parent t a m) (all (a .parent))
+        λ d. step-off st (a .parent) (a .before) (λ k. g .done (a .parent) (fact-parent t a m) List·Memᴰ·not-nil
             (subst (λ (b : ℕ). T (isRecord (nx (a .parent) b))) (λ j. e j .before) k)),
         λ k. absurd (subst (λ (z : ℕ). T (isRecord z)) (λ j. e j .after) k),
       )
@@ -99,6 +88,10 @@ module _ {nx : ℕ → ℕ → ℕ} {part : ℕ → Part} {kept : List PositionF
       content a w =
           ap (λ (c : ContentFact). ct (c .number)) (sym (w .2)) ∙ sym (g .filled (w .0) (w .1))
           ∙ ap (λ (c : ContentFact). c .content) (w .2)
+
+  pub in-order : InWrittenOrder fs (g .rows)
+  in-order =
+      ap (numbersTo fs) (g .size) ∙ sym (append-nil (numbersTo fs count)) ∙ g .order ∙ ap numbersIn tree-is
 
   -- ---- broken lists
 
@@ -136,7 +129,7 @@ module _ {nx : ℕ → ℕ → ℕ} {part : ℕ → Part} {kept : List PositionF
   pub least-is-told : broken ≡ leastOr (brokenIn walked)
   least-is-told =
       subst (λ (f : Tree). broken ≡ leastOr (brokenIn f)) (sym tree-is) (least-is (brokenIn (treeOf t)) broken some-place
-      (λ q m. let w = broken-out q m in (g .least-broken q (w .0) (all q) (w .1), known-low t (g .readable) q (w .0))))
+      (λ q m. let w = broken-out q m in (g .least-broken q (w .0) List·Memᴰ·not-nil (w .1), known-low t (g .readable) q (w .0))))
     where
       some-place : (broken ∈ brokenIn (treeOf t)) ⊎ (broken ≡ NONE)
       some-place = elim (g .some-broken) [ inl e ↦ inr e | inr w ↦ inl (broken-in broken (w .0) (w .2)) ]

@@ -1,22 +1,23 @@
--- A record follows: it is laid down on a line of its own, behind all that is there. nx says who follows whom, `part` where the content
--- of a record lies, ct what it is; ls and fs are the two arrays, with a prime when the line is laid; i is the line whose list is laid, r
--- its parent, p the last child so far, s the one that follows it. q is a parent, m a number, a a fact. Assumes nothing.
+-- A record follows: it is laid down on a line of its own, behind all that is there, and its list is begun. nx says who follows whom, `part`
+-- where the content of a record lies, ct what it is; ls and fs are the two arrays, with a prime when the line is laid; a is the innermost
+-- level of the path, r its parent, p the last child so far, s the one that follows it. q is a parent, n a number, x a fact. Assumes
+-- nothing.
 use mathlib.Core.Path.{_≡_, refl, sym, ap, _∙_, subst}
 use mathlib.Core.Logic.{_⊎_, inl, inr}
-use mathlib.Core.List.{List, [], _∷_, _++_, List·Memᴰ·head as here, List·Memᴰ·tail as there, Memᴰ·cast}
+use mathlib.Core.List.{List, [], _∷_, _++_, append-assoc, List·Memᴰ·head as here, List·Memᴰ·tail as there, Memᴰ·cast}
 use mathlib.Core.List.{List·Memᴰ·append-cases, List·Memᴰ·eq-of-singleton}
-use Prim.Native.Nat.{ℕ, _<_, _≤_, _+_, _*_}
+use Prim.Native.Nat.{ℕ, zero, suc, _<_, _≤_, _+_, _-_}
 use native.Mathlib.Omega.{arith}
-use native.Mathlib.Decide.{ℕ-discrete}
-use lib.ListN.{getD, length, length-append, length-map}
+use lib.ListN.{length, length-append, length-map}
 use lib.Dec.{T}
 use Rattle.rules.specs.Lists.{_∈_}
 use Rattle.rules.specs.Marks.{TOP, START, END, isRecord}
 use Rattle.rules.specs.Text.{last}
 use Rattle.rules.specs.Line.{Content, Row}
 use Rattle.rules.specs.Table.{numbers}
-use Rattle.rules.specs.Tree.{childNumbers}
+use Rattle.rules.specs.Tree.{STEPS, Tree, childNumbers, numbersIn}
 use Rattle.rules.specs.Facts.{PositionFact, listFacts, parentGiven, parentsGiven, position}
+use Rattle.rules.specs.Merge.{follower, walk}
 use Rattle.rules.specs.declared.answers.Part.{Part}
 use Rattle.trees.proofs.Lists.{last-among}
 use Rattle.trees.proofs.Sets.{once-few}
@@ -24,13 +25,17 @@ use Rattle.trees.proofs.Marks.{record-low, record-high}
 use Rattle.trees.proofs.Disagreeing.{given-in, numberOf, one-before, one-parent}
 use Rattle.trees.proofs.OneTable.{child-number, list-in, number-row, row-child}
 use Rattle.trees.proofs.LineByLine.{Open, children-more, lineFact, line-out, open-before, open-list, openFacts}
-use Rattle.facts.specs.Memory.{ROOM, WIDTH, NUMBER, lineAt, field, who, way}
+use Rattle.trees.proofs.Walk.{walk-some}
+use Rattle.facts.specs.Memory.{ROOM, NUMBER, field, fieldOn, who, way}
 use Rattle.facts.specs.Holds.{partAt}
-use Rattle.facts.proofs.Shown.{linked, list-end, top-line}
-use Rattle.facts.proofs.OneMore.{childless, children-other, known-cases, not-new, number-cases, number-old, once-more, readable-more}
+use Rattle.facts.specs.Order.{numbersTo}
+use Rattle.facts.proofs.Shown.{linked, list-end}
+use Rattle.facts.proofs.OneMore.{childless, children-other, known-cases, not-new, number-cases, number-new, number-old, once-more}
+use Rattle.facts.proofs.OneMore.{readable-more}
 use Rattle.facts.proofs.Adding.{Added}
 use Rattle.edits.specs.Least.{NONE}
-use Rattle.merged.specs.Laying.{Broken, Spread, Steps}
+use Rattle.merged.specs.Laying.{Steps}
+use Rattle.merged.proofs.Path.{Begun, Broken, Level, Spread, deeper, parents, step-on, toCome}
 
 -- ---- lists
 
@@ -38,37 +43,31 @@ last-more : (p n : ℕ) (ns : List ℕ) → last p (ns ++ (n ∷ [])) ≡ n
 last-more p n [] = refl
 last-more p n (m ∷ ns) = last-more m n ns
 
+-- one more laid is one less to come
+one-laid : (n : ℕ) (laid below after rest : List ℕ)
+    → (laid ++ (n ∷ [])) ++ (below ++ (after ++ rest)) ≡ laid ++ ((n ∷ (below ++ after)) ++ rest)
+one-laid n [] below after rest = ap (λ (l : List ℕ). n ∷ l) (sym (append-assoc below after rest))
+one-laid n (m ∷ laid) below after rest = ap (λ (l : List ℕ). m ∷ l) (one-laid n laid below after rest)
+
 module _ {nx : ℕ → ℕ → ℕ} {part : ℕ → Part} {kept : List PositionFact} {known : List ℕ} {ct : ℕ → Content} {ls fs : List ℕ}
-    {i p count broken : ℕ} (st : Steps nx kept known) (g : Spread nx part known ct ls fs i p count broken) (low : i ≤ count) where
+    {a : Level} {path : List Level} {p count broken : ℕ} (st : Steps nx kept known)
+    (g : Spread nx part kept known ct ls fs (a ∷ path) p count broken) where
   abbrev t : List Row
   t = g .rows
 
   abbrev r : ℕ
-  r = getD fs (i * WIDTH + NUMBER) 0
+  r = a .parent
 
   abbrev s : ℕ
   s = nx r p
 
   -- ---- the list that is laid
 
-  pub line-parent : lineAt ls r ≡ i
-  line-parent = g .holds .lined i (omega (arith, g .size))
+  pub known-parent : a .parent ∈ TOP ∷ numbers (g .rows)
+  known-parent = g .on-path r (here refl)
 
-  pub known-parent : r ∈ TOP ∷ numbers t
-  known-parent = go (ℕ-discrete i 0)
-    where
-      go : Dec (i ≡ 0) → r ∈ TOP ∷ numbers t
-      go (yes e) =
-          here (ap (λ (j : ℕ). getD fs (j * WIDTH + NUMBER) 0) (e ∙ sym (top-line ls fs t (g .holds) (g .readable)))
-          ∙ g .holds .named TOP (here refl))
-      go (no e) = there (g .holds .only r (omega (arith, line-parent)))
-
-  -- nobody else is on its line
-  pub one-line : (q : ℕ) → q ∈ TOP ∷ numbers t → lineAt ls q ≡ i → q ≡ r
-  one-line q k e = sym (g .holds .named q k) ∙ ap (λ (j : ℕ). getD fs (j * WIDTH + NUMBER) 0) e
-
-  pub last-child : p ≡ last START (childNumbers r t)
-  last-child = g .at low
+  pub last-child : p ≡ last START (childNumbers (a .parent) (g .rows))
+  last-child = g .begun .0
 
   last-known : (p ≡ START) ⊎ (p ∈ known)
   last-known =
@@ -96,7 +95,7 @@ module _ {nx : ℕ → ℕ → ℕ} {part : ℕ → Part} {kept : List PositionF
     gives q b = given-in s (position q b s) record-s (inr refl)
 
     -- were it there already, then on the same place, where the list goes no further
-    pub follower-new : s ∈ numbers t → ⊥
+    pub follower-new : nx (a .parent) p ∈ numbers (g .rows) → ⊥
     follower-new m =
         let w = number-row t s m in
         let q = w .0 .parent in
@@ -108,11 +107,11 @@ module _ {nx : ℕ → ℕ → ℕ} {part : ℕ → Part} {kept : List PositionF
         let parent : q ≡ r = one-parent (position q (b .0) s) fact agree _ _ (gives q (b .0)) (gives r p) refl in
         shut parent (one-before (position q (b .0) s) fact agree parent refl) (b .1)
       where
-        holds-fact : (a : PositionFact) → a .parent ≡ r → a ∈ listFacts r START (childNumbers r t)
-            → field ls fs (who r (a .before)) (way (a .before)) ≡ a .after
-        holds-fact a e m =
-            subst (λ (z : ℕ). field ls fs (who z (a .before)) (way (a .before)) ≡ a .after) e
-            (linked ls fs t (g .holds) (g .readable) a (list-in t r known-parent a m))
+        holds-fact : (x : PositionFact) → x .parent ≡ r → x ∈ listFacts r START (childNumbers r t)
+            → field ls fs (who r (x .before)) (way (x .before)) ≡ x .after
+        holds-fact x e m =
+            subst (λ (z : ℕ). field ls fs (who z (x .before)) (way (x .before)) ≡ x .after) e
+            (linked ls fs t (g .holds) (g .readable) x (list-in t r known-parent x m))
 
         shut : {q b : ℕ} → q ≡ r → b ≡ p → position q b s ∈ openFacts q START (childNumbers q t) → ⊥
         shut {q} {b} e d m =
@@ -126,7 +125,7 @@ module _ {nx : ℕ → ℕ → ℕ} {part : ℕ → Part} {kept : List PositionF
             omega (arith, record-high s record-s)
 
     abbrev pub row : Row
-    row = record { number = s; parent = r; content = ct s }
+    row = record { number = nx (a .parent) p; parent = a .parent; content = ct (nx (a .parent) p) }
 
     abbrev t′ : List Row
     t′ = t ++ (row ∷ [])
@@ -143,25 +142,88 @@ module _ {nx : ℕ → ℕ → ℕ} {part : ℕ → Part} {kept : List PositionF
 
     -- ---- its line is laid
 
+    abbrev left : ℕ
+    left = a .left - 1
+
+    -- the path with the list of s
+    abbrev path′ : List Level
+    path′ = deeper s a path
+
+    -- the walk has a step for it
+    a-step : a .left ≡ suc left
+    a-step = omega (arith, g .begun .1, room)
+
     module _ {ls′ fs′ : List ℕ} (w : Added ls fs ls′ fs′ t row (part s .start) (part s .length)) where
       split : (q : ℕ) → q ∈ TOP ∷ numbers t′ → (q ∈ TOP ∷ numbers t) ⊎ (q ≡ s)
       split = known-cases t row
 
-      line-old : (q : ℕ) → q ∈ TOP ∷ numbers t → lineAt ls′ q ≡ lineAt ls q
-      line-old q k = w .lines-same q (not-new t row (g .readable) record-s follower-new q k)
+      not-s : (q : ℕ) → q ∈ TOP ∷ numbers t → q ≡ s → ⊥
+      not-s = not-new t row (g .readable) record-s follower-new
 
-      line-new : (q : ℕ) → q ≡ s → i < lineAt ls′ q
-      line-new q e = subst (λ (z : ℕ). i < lineAt ls′ z) (sym e) (omega (arith, w .line-new, g .size))
+      stay : (q : ℕ) → q ∈ TOP ∷ numbers t → q ∈ TOP ∷ numbers t′
+      stay q (here e) = here e
+      stay q (there k) = there (number-old t row q k)
 
-      -- the lists of other lines are as they were
-      same-list : (q : ℕ) → (lineAt ls q ≡ i → ⊥) → childNumbers q t′ ≡ childNumbers q t
-      same-list q h = children-other t row q (λ e. h (ap (lineAt ls) e ∙ line-parent))
+      -- other lists end as they did
+      end-same : (q : ℕ) → (q ≡ r → ⊥) → nx q (last START (childNumbers q t′)) ≡ nx q (last START (childNumbers q t))
+      end-same q h = ap (λ (ns : List ℕ). nx q (last START ns)) (children-other t row q h)
 
-      -- so those before it end as they did
-      end-same : (q : ℕ) → lineAt ls q < i → nx q (last START (childNumbers q t′)) ≡ nx q (last START (childNumbers q t))
-      end-same q h = ap (λ (ns : List ℕ). nx q (last START ns)) (same-list q (λ d. omega arith))
+      -- ---- the path
 
-      pub spread-on : Spread nx part known ct ls′ fs′ i s (count + 1) broken
+      begun-same : (b : ℕ) (up : List Level) → (r ∈ parents up → ⊥) → Begun t count b up → Begun t′ (count + 1) b up
+      begun-same b [] h d = tt
+      begun-same b (c ∷ up) h d = (
+        d .0 ∙ sym (ap (last START) (children-other t row (c .parent) (λ e. h (here (sym e))))),
+        omega (arith, d .1),
+        begun-same (c .parent) up (λ m. h (there m)) (d .2),
+      )
+
+      begun : Begun t′ (count + 1) START path′
+      begun = (
+        sym (ap (last START) (childless t row (g .readable) record-s follower-new known-parent)),
+        omega (arith, g .begun .1, a-step),
+        (
+          sym (ap (last START) (children-more t row) ∙ last-more START s (childNumbers r t)),
+          omega (arith, g .begun .1, a-step),
+          begun-same r path (g .once .0) (g .begun .2),
+        ),
+      )
+
+      on-path : (q : ℕ) → q ∈ parents path′ → q ∈ TOP ∷ numbers t′
+      on-path q (here e) = there (number-new t row q e)
+      on-path q (there m) = stay q (g .on-path q m)
+
+      -- ---- the order
+
+      lines-same : (l : ℕ) → l ≤ length t → numbersTo fs′ l ≡ numbersTo fs l
+      lines-same zero h = refl
+      lines-same (suc l) h = λ i. lines-same l (omega arith) i ++ (w .numbers-same (suc l) h i ∷ [])
+
+      line-number : fieldOn fs′ (suc count) NUMBER ≡ s
+      line-number =
+          let e : suc count ≡ length t + 1 = omega (arith, g .size) in
+          ap (λ (l : ℕ). fieldOn fs′ l NUMBER) (e ∙ sym (w .line-new)) ∙ w .holds .named s (there (number-new t row s refl))
+
+      laid : numbersTo fs′ (count + 1) ≡ numbersTo fs count ++ (s ∷ [])
+      laid =
+          let e : count + 1 ≡ suc count = omega arith in
+          ap (numbersTo fs′) e ∙ (λ i. lines-same count (omega (arith, g .size)) i ++ (line-number i ∷ []))
+
+      abbrev walked : ℕ → ℕ → ℕ → Tree
+      walked = walk (follower kept) ct
+
+      reached : numbersIn (walked (a .left) r p) ≡ s ∷ (numbersIn (walked left s START) ++ numbersIn (walked left r s))
+      reached =
+          ap (λ (k : ℕ). numbersIn (walked k r p)) a-step
+          ∙ ap numbersIn (walk-some (follower kept) ct left r p s (step-on st r p record-s))
+
+      order : numbersTo fs′ (count + 1) ++ toCome walked START path′ ≡ numbersIn (walked STEPS TOP START)
+      order =
+          ap (λ (l : List ℕ). l ++ toCome walked START path′) laid
+          ∙ one-laid s (numbersTo fs count) (numbersIn (walked left s START)) (numbersIn (walked left r s)) (toCome walked r path)
+          ∙ ap (λ (l : List ℕ). numbersTo fs count ++ (l ++ toCome walked r path)) (sym reached) ∙ g .order
+
+      pub spread-on : Spread nx part kept known ct ls′ fs′ (deeper (nx (a .parent) p) a path) START (count + 1) broken
       unfolding lineFact
       spread-on =
           record {
@@ -169,10 +231,12 @@ module _ {nx : ℕ → ℕ → ℕ} {part : ℕ → Part} {kept : List PositionF
             holds = w .holds;
             readable = readable-more t row (g .readable) record-s follower-new known-parent;
             size = omega (arith, length-append t (row ∷ []), g .size);
-            steps = λ a m. step a (line-out t row a m);
+            steps = λ x m. step x (line-out t row x m);
+            begun = begun;
+            once = ((λ m. not-s s (g .on-path s m) refl), g .once);
+            on-path = on-path;
             done = λ q k. done q (split q k);
-            later = λ q k. later q (split q k);
-            at = λ _. at;
+            order = order;
             filled = λ x m. filled x (List·Memᴰ·append-cases t m);
             placed = λ n m. placed n (number-cases t row n m);
             within = λ n m. within n (number-cases t row n m);
@@ -180,27 +244,15 @@ module _ {nx : ℕ → ℕ → ℕ} {part : ℕ → Part} {kept : List PositionF
             least-broken = λ q k. least-broken q (split q k);
           }
         where
-          step : (a : PositionFact) → Open t a ⊎ (a ≡ lineFact t row) → nx (a .parent) (a .before) ≡ a .after
-          step a (inl m) = g .steps a m
-          step a (inr e) = (λ j. nx (e j .parent) (e j .before)) ∙ ap (nx r) (sym last-child) ∙ (λ j. sym e j .after)
+          step : (x : PositionFact) → Open t x ⊎ (x ≡ lineFact t row) → nx (x .parent) (x .before) ≡ x .after
+          step x (inl m) = g .steps x m
+          step x (inr e) = (λ j. nx (e j .parent) (e j .before)) ∙ ap (nx r) (sym last-child) ∙ (λ j. sym e j .after)
 
-          done : (q : ℕ) → (q ∈ TOP ∷ numbers t) ⊎ (q ≡ s) → lineAt ls′ q < i
+          done : (q : ℕ) → (q ∈ TOP ∷ numbers t) ⊎ (q ≡ s) → (q ∈ parents path′ → ⊥)
               → T (isRecord (nx q (last START (childNumbers q t′)))) → ⊥
-          done q (inr e) h m = omega (arith, line-new q e)
+          done q (inr e) h m = h (here e)
           done q (inl k) h m =
-              let b : lineAt ls q < i = omega (arith, line-old q k) in
-              g .done q k b (subst (λ (z : ℕ). T (isRecord z)) (end-same q b) m)
-
-          later : (q : ℕ) → (q ∈ TOP ∷ numbers t) ⊎ (q ≡ s) → i < lineAt ls′ q → childNumbers q t′ ≡ []
-          later q (inl k) h = same-list q (λ d. omega (arith, line-old q k)) ∙ g .later q k (omega (arith, line-old q k))
-          later q (inr e) h =
-              subst (λ (z : ℕ). childNumbers z t′ ≡ []) (sym e)
-              (childless t row (g .readable) record-s follower-new known-parent)
-
-          at : s ≡ last START (childNumbers (getD fs′ (i * WIDTH + NUMBER) 0) t′)
-          at =
-              sym (ap (λ (q : ℕ). last START (childNumbers q t′)) (w .numbers-same i (omega (arith, g .size)))
-              ∙ ap (last START) (children-more t row) ∙ last-more START s (childNumbers r t))
+              g .done q k (λ i. h (there i)) (subst (λ (z : ℕ). T (isRecord z)) (end-same q (λ e. h (there (here e)))) m)
 
           filled : (x : Row) → (x ∈ t) ⊎ (x ∈ row ∷ []) → x .content ≡ ct (x .number)
           filled x (inl m) = g .filled x m
@@ -215,18 +267,16 @@ module _ {nx : ℕ → ℕ → ℕ} {part : ℕ → Part} {kept : List PositionF
           within n (inl m) = g .within n m
           within n (inr e) = Memᴰ·cast e follower-known
 
-          stay : (q : ℕ) → q ∈ TOP ∷ numbers t → q ∈ TOP ∷ numbers t′
-          stay q (here e) = here e
-          stay q (there k) = there (number-old t row q k)
+          off-path : broken ∈ TOP ∷ numbers t → (broken ∈ parents (a ∷ path) → ⊥) → broken ∈ parents path′ → ⊥
+          off-path k h (here e) = not-s broken k e
+          off-path k h (there m) = h m
 
-          some-broken : (broken ≡ NONE) ⊎ ((broken ∈ TOP ∷ numbers t) × (lineAt ls broken < i) × Broken nx t broken)
-              → (broken ≡ NONE) ⊎ ((broken ∈ TOP ∷ numbers t′) × (lineAt ls′ broken < i) × Broken nx t′ broken)
+          some-broken : (broken ≡ NONE) ⊎ ((broken ∈ TOP ∷ numbers t) × (broken ∈ parents (a ∷ path) → ⊥) × Broken nx t broken)
+              → (broken ≡ NONE) ⊎ ((broken ∈ TOP ∷ numbers t′) × (broken ∈ parents path′ → ⊥) × Broken nx t′ broken)
           some-broken (inl e) = inl e
           some-broken (inr v) =
-              inr (stay broken (v .0), omega (arith, line-old broken (v .0), v .1), λ e. v .2 (sym (end-same broken (v .1)) ∙ e))
+              inr (stay broken (v .0), off-path (v .0) (v .1), λ e. v .2 (sym (end-same broken (λ d. v .1 (here d))) ∙ e))
 
-          least-broken : (q : ℕ) → (q ∈ TOP ∷ numbers t) ⊎ (q ≡ s) → lineAt ls′ q < i → Broken nx t′ q → broken ≤ q
-          least-broken q (inr e) h m = absurd (omega (arith, line-new q e))
-          least-broken q (inl k) h m =
-              let b : lineAt ls q < i = omega (arith, line-old q k) in
-              g .least-broken q k b (λ e. m (end-same q b ∙ e))
+          least-broken : (q : ℕ) → (q ∈ TOP ∷ numbers t) ⊎ (q ≡ s) → (q ∈ parents path′ → ⊥) → Broken nx t′ q → broken ≤ q
+          least-broken q (inr e) h m = absurd (h (here e))
+          least-broken q (inl k) h m = g .least-broken q k (λ i. h (there i)) (λ e. m (end-same q (λ d. h (there (here d))) ∙ e))

@@ -1,6 +1,7 @@
-// The merged tree, laid down as one more table in memory, along the followers by the kept facts: the children of the record on line 0,
-// then those of the record on line 1, and so on, each behind all that is there. So the table is its own queue, and no tree is climbed.
-// `lines` and `facts` are the arrays of the tables that are merged, `ls` and `fs` those of the merged table. i is a line, r its record.
+// The merged tree, laid down as one more table in memory, along the followers by the kept facts, in written order: a record first, then
+// its list; where a list ends, the one that its parent stands in goes on behind the parent. No stack is needed, for the parent stands in
+// the table already. `lines` and `facts` are the arrays of the tables that are merged, `ls` and `fs` those of the merged table. r is a
+// parent, p the one before, s the one after, l a line.
 use contents::kept_content;
 use edits::NONE;
 use edits::kept_after;
@@ -8,26 +9,24 @@ use edits::place;
 use edits::smaller;
 use facts::FACTS;
 use facts::NUMBERS;
+use facts::PARENT;
 use facts::ROOM;
 use facts::TABLES;
 use facts::add_line;
 use facts::column;
-use facts::number_on;
+use facts::field;
 use facts::width;
 use rules::record::Record;
 ghost use mathlib.Core.Path.{_≡_};
+ghost use mathlib.Core.Bool.{_&&_};
 ghost use mathlib.Core.List.{map};
-ghost use Prim.Native.Nat.{_<_};
+ghost use Prim.Native.Nat.{_<_, _-_};
+ghost use lib.Dec.{ltb};
 ghost use lib.ListN.{length};
-ghost use Rattle.facts.specs.Memory.{ROOM, TABLES};
-ghost use Rattle.merged.specs.Laying.{Listed as ListLaid, LaidDown};
+ghost use Rattle.rules.specs.Marks.{isRecord};
+ghost use Rattle.facts.specs.Memory.{NUMBERS, ROOM, TABLES};
+ghost use Rattle.merged.specs.Laying.{RecordLaid, LaidDown};
 ghost use Rattle.merged.specs.Memory.{keptNext, keptPart};
-
-// How many records are laid down, and what ends a list: END, or something else if it is broken.
-pub struct Listed {
-    pub count: usize,
-    pub s: u32,
-}
 
 // How many records are laid down, and the least parent whose list is broken, or NONE.
 pub struct LaidOut {
@@ -35,41 +34,39 @@ pub struct LaidOut {
     pub broken: u32,
 }
 
-// The children of `r`, which is on line `i`, each on a new line behind the first `from`.
-fn lay_list<'a>(
+// Whether a record follows, and there is a line for it behind the first `count`.
+fn follows(s: u32, count: usize) -> bool
+    ensures { λ z. ⌜ z ≡ (isRecord s && ltb count (ROOM - 1)) ⌝ }
+{
+    if Record::new(s).is_record() {
+        return count < ROOM - 1;
+    }
+    false
+}
+
+// Record `s` on line `l`, the last child of `r`, with its kept content.
+fn lay_record<'a>(
     texts: &[&'a [u8]],
     lines: &[[u16; NUMBERS]; TABLES],
     facts: &[[u32; FACTS]; TABLES],
     ls: &mut [u16; NUMBERS],
     fs: &mut [u32; FACTS],
-    i: usize,
+    l: usize,
+    s: u32,
     r: u32,
-    from: usize,
-) -> Listed
-    requires { ⌜ (length (now texts) ≡ TABLES) × (from < ROOM) ⌝ }
+)
+    requires { ⌜ (length (now texts) ≡ TABLES) × ((l < ROOM) × (s < NUMBERS)) ⌝ }
     ensures { λ z.
-        ⌜ ListLaid (keptNext (now (lines .entry)) (now (facts .entry)))
-        (keptPart (map now (now (texts .entry))) (now (lines .entry)) (now (facts .entry)))
-        (now (ls .entry)) (now (fs .entry)) (now (ls .exit)) (now (fs .exit)) i r from (z .count) (z .s) ⌝ }
-    ensures { λ z. ⌜ z .count < ROOM ⌝ }
+        ⌜ RecordLaid (keptPart (map now (now (texts .entry))) (now (lines .entry)) (now (facts .entry)))
+        (now (ls .entry)) (now (fs .entry)) (now (ls .exit)) (now (fs .exit)) l s r ⌝ }
 {
     column(ls);
     width(fs);
-    let mut count = from;
-    let mut s = kept_after(lines, facts, r, Record::START.number);
-    while count < ROOM - 1 {
-        if !Record::new(s).is_record() {
-            return Listed { count, s };
-        }
-        count += 1;
-        let k = kept_content(texts, lines, facts, s);
-        add_line(ls, fs, count, s, r, k.place, k.length);
-        s = kept_after(lines, facts, r, s);
-    }
-    Listed { count, s }
+    let k = kept_content(texts, lines, facts, s);
+    add_line(ls, fs, l, s, r, k.place, k.length);
 }
 
-// The whole tree, into a table that holds no record yet.
+// The whole tree, into a table that holds no record yet. `lists` are begun and not at their end; the innermost is that of `r`, behind `p`.
 pub fn lay_down<'a>(
     texts: &[&'a [u8]],
     lines: &[[u16; NUMBERS]; TABLES],
@@ -84,16 +81,26 @@ pub fn lay_down<'a>(
         (now (ls .entry)) (now (fs .entry)) (now (ls .exit)) (now (fs .exit)) (z .count) (z .broken) ⌝ }
     ensures { λ z. ⌜ z .count < ROOM ⌝ }
 {
-    let mut i: usize = 0;
     let mut count: usize = 0;
     let mut broken = NONE;
-    while i <= count {
-        let r = number_on(fs, i);
-        let l = lay_list(texts, lines, facts, ls, fs, i, r, count);
-        let v = place(l.s != Record::END.number, r);
+    let mut lists: usize = 1;
+    let mut r = Record::TOP.number;
+    let mut p = Record::START.number;
+    while 0 < lists {
+        let s = kept_after(lines, facts, r, p);
+        if follows(s, count) {
+            count += 1;
+            lists += 1;
+            lay_record(texts, lines, facts, ls, fs, count, s, r);
+            r = s;
+            p = Record::START.number;
+            continue;
+        }
+        let v = place(s != Record::END.number, r);
         broken = smaller(broken, v);
-        count = l.count;
-        i += 1;
+        lists -= 1;
+        p = r;
+        r = field(ls, fs, r, PARENT);
     }
     LaidOut { count, broken }
 }

@@ -14,6 +14,7 @@ use Rattle.rules.specs.Tree.{treeOf}
 use Rattle.rules.specs.Calls.{Outcome, packed, told, answerOf, tableAfter, ledgerAfter}
 use Rattle.rules.specs.declared.answers.Merged.{Merged}
 use Rattle.facts.specs.Memory.{ROOM}
+use Rattle.facts.specs.Order.{InWrittenOrder}
 use Rattle.write.specs.Stored.{Stored}
 use Rattle.ledger.specs.Entries.{entriesIn}
 
@@ -33,10 +34,11 @@ roomTold code tableLength ledgerLength =
 
 -- ---- the call
 
--- memory holds a table of so many records
+-- memory holds a table of so many records, their lines in written order
 pub record PackReady (texts : List (List ℕ)) (ls fs : List ℕ) (count : ℕ) : Type 0 where
   pub t : List Row
   pub stored : Stored texts ls fs t
+  pub order : InWrittenOrder fs t
   pub counted : count ≡ length t
   pub few : count < ROOM
 
@@ -46,8 +48,8 @@ pub record Ends (o : Outcome) (table ledger : List ℕ) (answer : Merged) (table
   pub tabled : table′ ≡ tableAfter o table
   pub ledgered : ledger′ ≡ ledgerAfter o ledger
 
--- whatever table memory holds, the call ends as its tree and entries make it end
+-- whatever table memory holds in written order, the call ends as its tree and entries make it end
 pub record Packs (texts : List (List ℕ)) (ls fs : List ℕ) (count : ℕ) (table ledger : List ℕ) (answer : Merged) (table′ ledger′ : List ℕ)
     : Type 0 where
-  pub all : (t : List Row) → Stored texts ls fs t → count ≡ length t
+  pub all : (t : List Row) → Stored texts ls fs t → InWrittenOrder fs t → count ≡ length t
       → Ends (packed (treeOf t) (entriesIn ls fs t) (length table) (length ledger)) table ledger answer table′ ledger′

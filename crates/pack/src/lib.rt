@@ -15,8 +15,10 @@ use write::write_table;
 ghost use mathlib.Core.Path.{_≡_};
 ghost use mathlib.Core.List.{map};
 ghost use lib.ListN.{length};
+ghost use Rattle.rules.specs.Written.{over};
+ghost use Rattle.rules.specs.Ledger.{ledger as ledgerOf};
 ghost use Rattle.write.specs.Writing.{TableReady, TableWritten};
-ghost use Rattle.ledger.specs.Entries.{LedgerReady, LedgerWritten};
+ghost use Rattle.ledger.specs.Entries.{entriesTo, LedgerReady};
 ghost use Rattle.pack.specs.Packed.{roomCode, roomTold, PackReady, Packs};
 
 // 26, 31 or 32, or 0: for so many records, the two lengths, and the room of the two buffers.
@@ -71,16 +73,16 @@ fn fill<'a>(
     ledger: &mut [u8],
 )
     requires { ⌜ TableReady (map now (now texts)) (now lines) (now facts) count (length (now table))
-        × LedgerReady (now lines) (now facts) count bytes (length (now ledger)) ⌝ }
+        × LedgerReady (now facts) count bytes (length (now ledger)) ⌝ }
     ensures { λ z.
         ⌜ TableWritten (map now (now (texts .entry))) (now (lines .entry)) (now (facts .entry)) (now (table .entry)) (now (table .exit)) ⌝ }
-    ensures { λ z. ⌜ LedgerWritten (now (lines .entry)) (now (facts .entry)) (now (ledger .entry)) (now (ledger .exit)) ⌝ }
+    ensures { λ z. ⌜ now (ledger .exit) ≡ over (ledgerOf (entriesTo (now (facts .entry)) count)) (now (ledger .entry)) ⌝ }
 {
     write_table(texts, lines, facts, table, count);
-    write_ledger(lines, facts, ledger, count, bytes);
+    write_ledger(facts, ledger, count, bytes);
 }
 
-// The end of a merge whose table of `count` records lies in memory.
+// The end of a merge whose table of `count` records lies in memory, its lines in written order.
 pub fn pack<'a>(
     texts: &[&'a [u8]],
     lines: &[u16; NUMBERS],

@@ -4,31 +4,31 @@ use borrow.Author.Needs.{needs}
 use Rattle.ledger.proofs.frame_line.Statement.{statement}
 use Rattle.ledger.proofs.frame_line.Tie as tie
 
--- src/lib.rt:70:9
+-- src/lib.rt:74:9
 field-on-requires : tie.Need-field-on-requires
-field-on-requires c κs = search widths
+field-on-requires c κs = search needs
 
--- src/lib.rt:71:9
+-- src/lib.rt:75:9
 field-on-requires-2 : tie.Need-field-on-requires-2
-field-on-requires-2 c κs = search widths
+field-on-requires-2 c κs = search needs
 
--- src/lib.rt:72:9
-width-requires : tie.Need-width-requires
-width-requires c κs = search widths
+-- src/lib.rt:76:9
+digit-count-requires : tie.Need-digit-count-requires
+digit-count-requires c κs = search needs
 
--- src/lib.rt:72:5
+-- src/lib.rt:76:5
 add-result : tie.Need-add-result
-add-result c = search widths
+add-result c = search needs
 
--- src/lib.rt:72:20
-width-requires-2 : tie.Need-width-requires-2
-width-requires-2 c κs = search widths
+-- src/lib.rt:76:26
+digit-count-requires-2 : tie.Need-digit-count-requires-2
+digit-count-requires-2 c κs = search needs
 
--- src/lib.rt:72:5
+-- src/lib.rt:76:5
 add-result-2 : tie.Need-add-result-2
-add-result-2 c = search widths
+add-result-2 c = search needs
 
--- src/lib.rt:65:1
+-- src/lib.rt:69:1
 returns : tie.Need-returns
 returns c = (search widths, search needs)
 
@@ -38,8 +38,8 @@ frame-line-spec =
     (tie.spec
     field-on-requires
     field-on-requires-2
-    width-requires
+    digit-count-requires
     add-result
-    width-requires-2
+    digit-count-requires-2
     add-result-2
     returns)

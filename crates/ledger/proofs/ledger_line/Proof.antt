@@ -4,43 +4,43 @@ use borrow.Author.Needs.{needs}
 use Rattle.ledger.proofs.ledger_line.Statement.{statement}
 use Rattle.ledger.proofs.ledger_line.Tie as tie
 
--- src/lib.rt:81:9
+-- src/lib.rt:85:9
 field-on-requires : tie.Need-field-on-requires
-field-on-requires c κs = search widths
+field-on-requires c κs = search needs
 
--- src/lib.rt:82:9
+-- src/lib.rt:86:9
 field-on-requires-2 : tie.Need-field-on-requires-2
-field-on-requires-2 c κs = search widths
+field-on-requires-2 c κs = search needs
 
--- src/lib.rt:83:9
+-- src/lib.rt:87:9
 field-on-requires-3 : tie.Need-field-on-requires-3
-field-on-requires-3 c κs = search widths
+field-on-requires-3 c κs = search needs
 
--- src/lib.rt:84:9
-width-requires : tie.Need-width-requires
-width-requires c κs = search widths
+-- src/lib.rt:88:9
+digit-count-requires : tie.Need-digit-count-requires
+digit-count-requires c κs = search needs
 
--- src/lib.rt:84:5
+-- src/lib.rt:88:5
 add-result : tie.Need-add-result
-add-result c = search widths
+add-result c = search needs
 
--- src/lib.rt:84:20
-width-requires-2 : tie.Need-width-requires-2
-width-requires-2 c κs = search widths
+-- src/lib.rt:88:26
+digit-count-requires-2 : tie.Need-digit-count-requires-2
+digit-count-requires-2 c κs = search needs
 
--- src/lib.rt:84:5
+-- src/lib.rt:88:5
 add-result-2 : tie.Need-add-result-2
-add-result-2 c = search widths
+add-result-2 c = search needs
 
--- src/lib.rt:84:50
-width-requires-3 : tie.Need-width-requires-3
-width-requires-3 c κs = search widths
+-- src/lib.rt:88:62
+digit-count-requires-3 : tie.Need-digit-count-requires-3
+digit-count-requires-3 c κs = search needs
 
--- src/lib.rt:84:5
+-- src/lib.rt:88:5
 add-result-3 : tie.Need-add-result-3
-add-result-3 c = search widths
+add-result-3 c = search needs
 
--- src/lib.rt:76:1
+-- src/lib.rt:80:1
 returns : tie.Need-returns
 returns c = (search widths, search needs)
 
@@ -51,10 +51,10 @@ ledger-line-spec =
     field-on-requires
     field-on-requires-2
     field-on-requires-3
-    width-requires
+    digit-count-requires
     add-result
-    width-requires-2
+    digit-count-requires-2
     add-result-2
-    width-requires-3
+    digit-count-requires-3
     add-result-3
     returns)

@@ -4,19 +4,19 @@ use borrow.Author.Needs.{needs}
 use Rattle.ledger.proofs.sum_width.Statement.{statement}
 use Rattle.ledger.proofs.sum_width.Tie as tie
 
--- src/lib.rt:93:22
+-- src/lib.rt:97:22
 cast-width : tie.Need-cast-width
 cast-width c = search widths
 
--- src/lib.rt:93:9
+-- src/lib.rt:97:9
 width-requires : tie.Need-width-requires
 width-requires c κs = search widths
 
--- src/lib.rt:93:9
+-- src/lib.rt:97:9
 returns : tie.Need-returns
 returns c = search widths
 
--- src/lib.rt:88:1
+-- src/lib.rt:92:1
 returns-2 : tie.Need-returns-2
 returns-2 c = (search widths, search needs)
 

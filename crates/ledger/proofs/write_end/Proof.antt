@@ -5,27 +5,27 @@ use Rattle.ledger.proofs.Lines.{ends}
 use Rattle.ledger.proofs.write_end.Statement.{statement}
 use Rattle.ledger.proofs.write_end.Tie as tie
 
--- src/lib.rt:137:9
+-- src/lib.rt:141:9
 write-field-requires : tie.Need-write-field-requires
 write-field-requires c κs = search ends
 
--- src/lib.rt:138:9
+-- src/lib.rt:142:9
 write-digits-requires : tie.Need-write-digits-requires
 write-digits-requires c κs = search ends
 
--- src/lib.rt:139:5
+-- src/lib.rt:143:5
 slice-write-out : tie.Need-slice-write-out
 slice-write-out c = search ends
 
--- src/lib.rt:140:5
+-- src/lib.rt:144:5
 add-result : tie.Need-add-result
 add-result c = search ends
 
--- src/lib.rt:133:1
+-- src/lib.rt:137:1
 same-length : tie.Need-same-length
 same-length c = simp length-set (omega arith)
 
--- src/lib.rt:133:1
+-- src/lib.rt:137:1
 returns : tie.Need-returns
 returns c = search ends
 

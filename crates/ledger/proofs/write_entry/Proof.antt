@@ -3,27 +3,31 @@ use Rattle.ledger.proofs.Lines.{entries}
 use Rattle.ledger.proofs.write_entry.Statement.{statement}
 use Rattle.ledger.proofs.write_entry.Tie as tie
 
+-- src/lib.rt:152:9
+field-on-requires : tie.Need-field-on-requires
+field-on-requires c κs = search entries
+
+-- src/lib.rt:153:9
+field-on-requires-2 : tie.Need-field-on-requires-2
+field-on-requires-2 c κs = search entries
+
+-- src/lib.rt:154:9
+field-on-requires-3 : tie.Need-field-on-requires-3
+field-on-requires-3 c κs = search entries
+
 -- src/lib.rt:155:9
-field-requires : tie.Need-field-requires
-field-requires c κs = search entries
-
--- src/lib.rt:156:9
-field-requires-2 : tie.Need-field-requires-2
-field-requires-2 c κs = search entries
-
--- src/lib.rt:157:9
 write-field-requires : tie.Need-write-field-requires
 write-field-requires c κs = search entries
 
--- src/lib.rt:158:5
+-- src/lib.rt:156:5
 write-end-requires : tie.Need-write-end-requires
 write-end-requires c κs = search entries
 
--- src/lib.rt:144:1
+-- src/lib.rt:148:1
 same-length : tie.Need-same-length
 same-length c = search entries
 
--- src/lib.rt:144:1
+-- src/lib.rt:148:1
 returns : tie.Need-returns
 returns c = search entries
 
@@ -31,8 +35,9 @@ pub write-entry-spec : {M : Type 1} → statement M
 write-entry-spec =
     tie.close
     (tie.spec
-    field-requires
-    field-requires-2
+    field-on-requires
+    field-on-requires-2
+    field-on-requires-3
     write-field-requires
     write-end-requires
     same-length

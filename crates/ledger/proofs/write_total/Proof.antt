@@ -3,23 +3,23 @@ use Rattle.ledger.proofs.Lines.{ends}
 use Rattle.ledger.proofs.write_total.Statement.{statement}
 use Rattle.ledger.proofs.write_total.Tie as tie
 
--- src/lib.rt:166:18
+-- src/lib.rt:164:18
 slice-aggregate-copy : tie.Need-slice-aggregate-copy
 slice-aggregate-copy c = search ends
 
--- src/lib.rt:166:9
+-- src/lib.rt:164:9
 copy-requires : tie.Need-copy-requires
 copy-requires c κs = search ends
 
--- src/lib.rt:167:5
+-- src/lib.rt:165:5
 write-end-requires : tie.Need-write-end-requires
 write-end-requires c κs = search ends
 
--- src/lib.rt:162:1
+-- src/lib.rt:160:1
 same-length : tie.Need-same-length
 same-length c = search ends
 
--- src/lib.rt:162:1
+-- src/lib.rt:160:1
 returns : tie.Need-returns
 returns c = search ends
 

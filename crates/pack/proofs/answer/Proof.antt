@@ -5,11 +5,11 @@ use Rattle.pack.proofs.answer.Tie as tie
 use Rattle.pack.proofs.answer.Reads as reads
 use Rattle.pack.proofs.answer.Lts as lts
 
--- src/lib.rt:46:9
+-- src/lib.rt:48:9
 returns : tie.Need-returns
 returns c = search answers
 
--- src/lib.rt:42:1
+-- src/lib.rt:44:1
 returns-2 : tie.Need-returns-2
 returns-2 c = search answers
 

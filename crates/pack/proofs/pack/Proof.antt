@@ -10,39 +10,39 @@ use Rattle.pack.proofs.answer.Reads as answer-reads
 use Rattle.pack.proofs.fill.Reads as fill-reads
 use Rattle.pack.proofs.room.Reads as room-reads
 
--- src/lib.rt:97:9
+-- src/lib.rt:99:9
 sum-lines-requires : tie.Need-sum-lines-requires
 sum-lines-requires c κs = search needs
 
--- src/lib.rt:98:9
+-- src/lib.rt:100:9
 room-requires : tie.Need-room-requires
 room-requires c κs = search needs
 
--- src/lib.rt:100:9
+-- src/lib.rt:102:9
 answer-requires : tie.Need-answer-requires
 answer-requires c κs = search needs
 
--- src/lib.rt:100:9
+-- src/lib.rt:102:9
 returns : tie.Need-returns
 returns c = search packings
 
--- src/lib.rt:102:5
+-- src/lib.rt:104:5
 fill-requires : tie.Need-fill-requires
 fill-requires c κs = search packings
 
--- src/lib.rt:103:5
+-- src/lib.rt:105:5
 answer-requires-2 : tie.Need-answer-requires-2
 answer-requires-2 c κs = search needs
 
--- src/lib.rt:84:1
+-- src/lib.rt:86:1
 same-length : tie.Need-same-length
 same-length c = search needs
 
--- src/lib.rt:84:1
+-- src/lib.rt:86:1
 same-length-2 : tie.Need-same-length-2
 same-length-2 c = search needs
 
--- src/lib.rt:84:1
+-- src/lib.rt:86:1
 returns-2 : tie.Need-returns-2
 returns-2 c = search packings
 

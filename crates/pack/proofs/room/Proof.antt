@@ -5,23 +5,23 @@ use Rattle.pack.proofs.room.Tie as tie
 use Rattle.pack.proofs.room.Reads as reads
 use Rattle.pack.proofs.room.Lts as lts
 
--- src/lib.rt:27:9
+-- src/lib.rt:29:9
 returns : tie.Need-returns
 returns c = search rooms
 
--- src/lib.rt:30:9
+-- src/lib.rt:32:9
 returns-2 : tie.Need-returns-2
 returns-2 c = search rooms
 
--- src/lib.rt:33:9
+-- src/lib.rt:35:9
 returns-3 : tie.Need-returns-3
 returns-3 c = search rooms
 
--- src/lib.rt:36:9
+-- src/lib.rt:38:9
 returns-4 : tie.Need-returns-4
 returns-4 c = search rooms
 
--- src/lib.rt:23:1
+-- src/lib.rt:25:1
 returns-5 : tie.Need-returns-5
 returns-5 c = search rooms
 
