@@ -1,18 +1,38 @@
 -- How the loops over the lines and over the branches find the least places. f has the places of a line or of a branch. Assumes nothing.
 use mathlib.Core.Path.{_≡_, sym, ap, _∙_}
-use Prim.Native.Nat.{ℕ, suc, _+_, _-_, _<_, _≤_, min}
+use Prim.Native.Nat.{ℕ, zero, suc, _+_, _-_, _<_, _≤_, min}
 use native.Mathlib.Omega.{arith}
 use native.Mathlib.Numerals.{add-one}
 use borrow.Author.Needs.{needs}
 use Rattle.facts.specs.Memory.{TABLES, BRANCHES}
 use Rattle.facts.specs.Asked.{Asked}
+use Rattle.edits.specs.Least.{NONE}
 use Rattle.edits.specs.Positions.{parentPlace, neighbourPlace}
 use Rattle.contents.specs.Contents.{Told, contentPlace}
 use Rattle.clashes.specs.declared.Clashes.{Clashes}
-use Rattle.clashes.specs.Clashes.{lesser, leastTo, clashesAt}
+use Rattle.clashes.specs.Clashes.{noClash, lesser, leastTo, clashesAt}
 
 pub least-on : (f : ℕ → Clashes) (i : ℕ) (x v z : Clashes) → x ≡ leastTo f i → v ≡ f i → z ≡ lesser x v → z ≡ leastTo f (i + 1)
 least-on f i x v z e g h = rw (add-one, ← e, ← g) h
+
+-- places are at most NONE
+least-low : (f : ℕ → Clashes) (i : ℕ) → (leastTo f i .content ≤ NONE) × (leastTo f i .parent ≤ NONE) × (leastTo f i .neighbour ≤ NONE)
+least-low f zero = (omega arith, omega arith, omega arith)
+least-low f (suc i) =
+    let w = least-low f i in
+    (omega (arith, w .0), omega (arith, w .1), omega (arith, w .2))
+
+-- nothing clashes there
+pub least-skip : (f : ℕ → Clashes) (i : ℕ) (x : Clashes) → x ≡ leastTo f i → f i ≡ noClash → x ≡ leastTo f (i + 1)
+least-skip f i x e g =
+    let w = least-low f i in
+    let c : leastTo f i .content ≡ min (leastTo f i .content) NONE = omega (arith, w .0) in
+    let p : leastTo f i .parent ≡ min (leastTo f i .parent) NONE = omega (arith, w .1) in
+    let n : leastTo f i .neighbour ≡ min (leastTo f i .neighbour) NONE = omega (arith, w .2) in
+    e
+    ∙ (λ j. record { content = c j; parent = p j; neighbour = n j })
+    ∙ ap (lesser (leastTo f i)) (sym g)
+    ∙ ap (leastTo f) (sym (add-one i))
 
 pub least-end : (f : ℕ → Clashes) (i count : ℕ) (x : Clashes) → x ≡ leastTo f i → i ≤ count + 1 → count < i → x ≡ leastTo f (suc count)
 least-end f i count x e g h = let d : i ≡ suc count = omega arith in e ∙ ap (leastTo f) d

@@ -10,8 +10,28 @@ use mir.Val.{Fits}
 use mir.Syntax.{w64}
 use borrow.Author.Needs.{needs}
 use Rattle.facts.specs.Memory.{TABLES, BRANCHES}
-use Rattle.edits.specs.Branches.{firstBranch, sumFrom, sumBranches}
+use Rattle.edits.specs.Branches.{firstFrom, firstBranch, sumFrom, sumBranches}
 use Rattle.edits.proofs.Branches.{Left, left-start, left-here, left-on, left-end}
+
+-- ---- two tests that answer the same of each branch
+
+module _ (f g : ℕ → Bool) where
+  first-from : (k m : ℕ) → ((j : ℕ) → k ≤ j → j < k + m → f j ≡ g j) → firstFrom f k m ≡ firstFrom g k m
+  first-from k zero e = refl
+  first-from k (suc m) e =
+      λ i. cond (e k (omega arith) (omega arith) i) k (first-from (suc k) m (λ j a b. e j (omega arith) (omega arith)) i)
+
+  sum-from : (k m : ℕ) → ((j : ℕ) → k ≤ j → j < k + m → f j ≡ g j) → sumFrom f k m ≡ sumFrom g k m
+  sum-from k zero e = refl
+  sum-from k (suc m) e =
+      λ i. cond (e k (omega arith) (omega arith) i) k 0 + sum-from (suc k) m (λ j a b. e j (omega arith) (omega arith)) i
+
+  module _ (e : (k : ℕ) → 0 < k → k < TABLES → f k ≡ g k) where
+    pub first-same : firstBranch f ≡ firstBranch g
+    first-same = first-from 1 BRANCHES (λ j a b. e j (omega arith) (omega arith))
+
+    pub sum-same : sumBranches f ≡ sumBranches g
+    sum-same = sum-from 1 BRANCHES (λ j a b. e j (omega arith) (omega arith))
 
 -- ---- the sum
 

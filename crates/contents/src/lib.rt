@@ -1,42 +1,91 @@
 // Contents of the tables side by side: which are edits, where two edits clash, and where the kept content of a record lies. Table 0 is
-// old, the others are the branches; `texts` has the text of each table. n is a record, t and k are tables.
-use edits::has_in;
+// old, the others are the branches; `texts` has the text of each table, and `marks` what is new on each line. n is a record, t and k are
+// tables, l is a line, i a place in a content or a field.
+pub mod marks;
+
+use crate::marks::edited;
 use edits::place;
 use facts::FACTS;
 use facts::LENGTH;
 use facts::NUMBERS;
 use facts::PLACE;
+use facts::ROOM;
 use facts::SPAN;
 use facts::TABLES;
 use facts::TEXTS;
 use facts::field;
+use facts::field_on;
+use facts::line_of;
 ghost use mathlib.Core.Path.{_≡_};
-ghost use mathlib.Core.Bool.{_&&_};
 ghost use mathlib.Core.List.{map};
-ghost use Prim.Native.Nat.{_<_, _≤_};
-ghost use lib.ListN.{length};
+ghost use Prim.Native.Nat.{_+_, _<_, _≤_};
+ghost use lib.ListN.{length, take, drop};
 ghost use Rattle.rules.specs.Facts.{sameContent};
-ghost use Rattle.facts.specs.Memory.{TABLES, WIDTH, field};
+ghost use Rattle.facts.specs.Memory.{ROOM, TABLES, WIDTH};
+ghost use Rattle.edits.specs.Branches.{firstBranch, sumBranches};
 ghost use Rattle.edits.specs.Memory.{fieldIn};
-ghost use Rattle.contents.specs.Contents.{freshContent, twoContents, contentPlace, contentOrigin};
-ghost use Rattle.contents.specs.Memory.{cut, tell, sourceOf, keptPlace, keptLength};
+ghost use Rattle.contents.specs.Contents.{twoContents, contentPlace};
+ghost use Rattle.contents.specs.Memory.{cut, contentOn, tell, keptPlace, keptLength};
+ghost use Rattle.contents.specs.Marks.{editedIn, Noted};
 
 // ---- one content
 
-// "Contents are equal when their bytes are." All bytes are looked at, so that the compiler takes many together.
+// Eight bytes of each from a place on. All are looked at, so that the compiler takes them together.
+fn eight_alike(a: &[u8], b: &[u8], i: usize) -> bool
+    requires { ⌜ (i + 8 ≤ length (now a)) × (i + 8 ≤ length (now b)) ⌝ }
+    ensures { λ z. ⌜ z ≡ sameContent (take 8 (drop i (now (a .entry)))) (take 8 (drop i (now (b .entry)))) ⌝ }
+{
+    (a[i] == b[i])
+        & ((a[i + 1] == b[i + 1])
+            & ((a[i + 2] == b[i + 2])
+                & ((a[i + 3] == b[i + 3])
+                    & ((a[i + 4] == b[i + 4])
+                        & ((a[i + 5] == b[i + 5])
+                            & ((a[i + 6] == b[i + 6]) & (a[i + 7] == b[i + 7])))))))
+}
+
+// Two contents of eight bytes or more: eight at a time, and the last eight, some of them once more.
+fn same_long(a: &[u8], b: &[u8]) -> bool
+    requires { ⌜ (8 ≤ length (now a)) × (length (now a) ≡ length (now b)) ⌝ }
+    ensures { λ z. ⌜ z ≡ sameContent (now (a .entry)) (now (b .entry)) ⌝ }
+{
+    let last = a.len() - 8;
+    let mut i: usize = 0;
+    while i < last {
+        if !eight_alike(a, b, i) {
+            return false;
+        }
+        i += 8;
+    }
+    eight_alike(a, b, last)
+}
+
+// One byte at a time.
+fn same_short(a: &[u8], b: &[u8]) -> bool
+    requires { ⌜ length (now a) ≡ length (now b) ⌝ }
+    ensures { λ z. ⌜ z ≡ sameContent (now (a .entry)) (now (b .entry)) ⌝ }
+{
+    let mut i: usize = 0;
+    while i < a.len() {
+        if a[i] != b[i] {
+            return false;
+        }
+        i += 1;
+    }
+    true
+}
+
+// "Contents are equal when their bytes are."
 pub fn same(a: &[u8], b: &[u8]) -> bool
     ensures { λ z. ⌜ z ≡ sameContent (now (a .entry)) (now (b .entry)) ⌝ }
 {
     if a.len() != b.len() {
         return false;
     }
-    let mut z = true;
-    let mut i: usize = 0;
-    while i < a.len() {
-        z = z & (a[i] == b[i]);
-        i += 1;
+    if a.len() < 8 {
+        return same_short(a, b);
     }
-    z
+    same_long(a, b)
 }
 
 // So many bytes of a text; none, if they do not all lie there.
@@ -66,8 +115,23 @@ fn field_in(
     field(&lines[t], &facts[t], n, i)
 }
 
+// What the record on a line of a table holds.
+fn content_on<'a>(
+    texts: &[&'a [u8]],
+    facts: &[[u32; FACTS]; TABLES],
+    t: usize,
+    l: usize,
+) -> &'a [u8]
+    requires { ⌜ (t < TABLES) × ((l < ROOM) × (length (now texts) ≡ TABLES)) ⌝ }
+    ensures { λ r. ⌜ now r ≡ contentOn (map now (now (texts .entry))) (now (facts .entry)) t l ⌝ }
+{
+    let start = field_on(&facts[t], l, PLACE);
+    let long = field_on(&facts[t], l, LENGTH);
+    cut(texts[t], start, long)
+}
+
 // What a record holds in a table.
-pub fn content<'a>(
+fn content<'a>(
     texts: &[&'a [u8]],
     lines: &[[u16; NUMBERS]; TABLES],
     facts: &[[u32; FACTS]; TABLES],
@@ -77,9 +141,8 @@ pub fn content<'a>(
     requires { ⌜ (t < TABLES) × (length (now texts) ≡ TABLES) ⌝ }
     ensures { λ r. ⌜ now r ≡ tell (map now (now (texts .entry))) (now (lines .entry)) (now (facts .entry)) t .content n ⌝ }
 {
-    let start = field_in(lines, facts, t, n, PLACE);
-    let long = field_in(lines, facts, t, n, LENGTH);
-    cut(texts[t], start, long)
+    let l = line_of(&lines[t], n);
+    content_on(texts, facts, t, l)
 }
 
 // Whether a record holds the same in two tables.
@@ -103,66 +166,23 @@ fn same_in<'a>(
 
 // ---- edits
 
-// Whether old has the record, with the content that table `t` has there.
-fn as_old<'a>(
-    texts: &[&'a [u8]],
-    lines: &[[u16; NUMBERS]; TABLES],
-    facts: &[[u32; FACTS]; TABLES],
-    t: usize,
-    n: u32,
-) -> bool
-    requires { ⌜ (t < TABLES) × (length (now texts) ≡ TABLES) ⌝ }
-    ensures { λ z.
-        ⌜ z ≡ (tell (map now (now (texts .entry))) (now (lines .entry)) (now (facts .entry)) 0 .has n
-        && sameContent (tell (map now (now (texts .entry))) (now (lines .entry)) (now (facts .entry)) t .content n)
-        (tell (map now (now (texts .entry))) (now (lines .entry)) (now (facts .entry)) 0 .content n)) ⌝ }
-{
-    if has_in(lines, 0, n) {
-        return same_in(texts, lines, facts, t, 0, n);
-    }
-    false
-}
-
-// Whether table `t` has a content there that old does not have.
-pub fn fresh_content<'a>(
-    texts: &[&'a [u8]],
-    lines: &[[u16; NUMBERS]; TABLES],
-    facts: &[[u32; FACTS]; TABLES],
-    t: usize,
-    n: u32,
-) -> bool
-    requires { ⌜ (t < TABLES) × (length (now texts) ≡ TABLES) ⌝ }
-    ensures { λ z. ⌜ z ≡ freshContent (tell (map now (now (texts .entry))) (now (lines .entry)) (now (facts .entry))) t n ⌝ }
-{
-    if has_in(lines, t, n) {
-        return !as_old(texts, lines, facts, t, n);
-    }
-    false
-}
-
 // The first branch with an edit there, or 0, which is old; and the sum of all that have one.
 struct Source {
     table: usize,
     origin: usize,
 }
 
-fn content_source<'a>(
-    texts: &[&'a [u8]],
-    lines: &[[u16; NUMBERS]; TABLES],
-    facts: &[[u32; FACTS]; TABLES],
-    n: u32,
-) -> Source
-    requires { ⌜ length (now texts) ≡ TABLES ⌝ }
-    ensures { λ z. ⌜ z .table ≡ sourceOf (map now (now (texts .entry))) (now (lines .entry)) (now (facts .entry)) n ⌝ }
+fn content_source(lines: &[[u16; NUMBERS]; TABLES], marks: &[[u8; ROOM]; TABLES], n: u32) -> Source
+    ensures { λ z. ⌜ z .table ≡ firstBranch (λ k. editedIn (now (lines .entry)) (now (marks .entry)) k n) ⌝ }
     ensures { λ z. ⌜ z .table < TABLES ⌝ }
-    ensures { λ z. ⌜ z .origin ≡ contentOrigin (tell (map now (now (texts .entry))) (now (lines .entry)) (now (facts .entry))) n ⌝ }
+    ensures { λ z. ⌜ z .origin ≡ sumBranches (λ k. editedIn (now (lines .entry)) (now (marks .entry)) k n) ⌝ }
     ensures { λ z. ⌜ z .origin ≤ 3 ⌝ }
 {
     let mut table: usize = 0;
     let mut origin: usize = 0;
     let mut t: usize = 1;
     while t < TABLES {
-        if fresh_content(texts, lines, facts, t, n) {
+        if edited(lines, marks, t, n) {
             if table == 0 {
                 table = t;
             }
@@ -175,20 +195,25 @@ fn content_source<'a>(
 
 // ---- clashes
 
-// An edit of table `t` that is not the first branch's.
+// An edit of branch `t` that is not the first branch's.
 fn two_contents<'a>(
     texts: &[&'a [u8]],
     lines: &[[u16; NUMBERS]; TABLES],
     facts: &[[u32; FACTS]; TABLES],
+    marks: &[[u8; ROOM]; TABLES],
     t: usize,
     n: u32,
 ) -> bool
-    requires { ⌜ (t < TABLES) × (length (now texts) ≡ TABLES) ⌝ }
+    requires { ⌜ ((0 < t) × (t < TABLES)) × (length (now texts) ≡ TABLES) ⌝ }
+    requires { ⌜ Noted (map now (now texts)) (now lines) (now facts) (now marks) ⌝ }
     ensures { λ z. ⌜ z ≡ twoContents (tell (map now (now (texts .entry))) (now (lines .entry)) (now (facts .entry))) t n ⌝ }
 {
-    if fresh_content(texts, lines, facts, t, n) {
-        let source = content_source(texts, lines, facts, n);
+    if edited(lines, marks, t, n) {
+        let source = content_source(lines, marks, n);
         let k = source.table;
+        if k == t {
+            return false;
+        }
         return !same_in(texts, lines, facts, t, k, n);
     }
     false
@@ -199,13 +224,15 @@ pub fn content_place<'a>(
     texts: &[&'a [u8]],
     lines: &[[u16; NUMBERS]; TABLES],
     facts: &[[u32; FACTS]; TABLES],
+    marks: &[[u8; ROOM]; TABLES],
     t: usize,
     n: u32,
 ) -> u32
-    requires { ⌜ (t < TABLES) × (length (now texts) ≡ TABLES) ⌝ }
+    requires { ⌜ ((0 < t) × (t < TABLES)) × (length (now texts) ≡ TABLES) ⌝ }
+    requires { ⌜ Noted (map now (now texts)) (now lines) (now facts) (now marks) ⌝ }
     ensures { λ z. ⌜ z ≡ contentPlace (tell (map now (now (texts .entry))) (now (lines .entry)) (now (facts .entry))) t n ⌝ }
 {
-    let test = two_contents(texts, lines, facts, t, n);
+    let test = two_contents(texts, lines, facts, marks, t, n);
     place(test, n)
 }
 
@@ -217,17 +244,19 @@ pub struct Kept {
     pub length: u32,
 }
 
+// `texts` is not looked at: it says what the marks are of.
 pub fn kept_content<'a>(
     texts: &[&'a [u8]],
     lines: &[[u16; NUMBERS]; TABLES],
     facts: &[[u32; FACTS]; TABLES],
+    marks: &[[u8; ROOM]; TABLES],
     n: u32,
 ) -> Kept
-    requires { ⌜ length (now texts) ≡ TABLES ⌝ }
+    requires { ⌜ Noted (map now (now texts)) (now lines) (now facts) (now marks) ⌝ }
     ensures { λ z. ⌜ z .place ≡ keptPlace (map now (now (texts .entry))) (now (lines .entry)) (now (facts .entry)) n ⌝ }
     ensures { λ z. ⌜ z .length ≡ keptLength (map now (now (texts .entry))) (now (lines .entry)) (now (facts .entry)) n ⌝ }
 {
-    let source = content_source(texts, lines, facts, n);
+    let source = content_source(lines, marks, n);
     let k = source.table;
     let origin = source.origin;
     let start = field_in(lines, facts, k, n, PLACE);

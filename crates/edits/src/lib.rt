@@ -1,11 +1,17 @@
 // Positions of the tables side by side: which facts are edits, where two edits clash, and who follows by the kept facts. Table 0 is
 // old, the others are the branches. All of it is asked of one table at a time; 0 is the answer "none". n is a record, r a parent, p the
-// one before, s the one after, o what old answers, t a table.
+// one before, s the one after, o what old answers, or a line of old; t is a table, l a line.
 pub mod clash;
 
 use facts::FACTS;
+use facts::FIRST;
+use facts::FOLLOWER;
+use facts::FORERUNNER;
+use facts::LAST;
 use facts::NUMBERS;
+use facts::PARENT;
 use facts::TABLES;
+use facts::field_on;
 use facts::follower;
 use facts::forerunner;
 use facts::has;
@@ -19,10 +25,10 @@ ghost use mathlib.Core.Bool.{_&&_, _||_};
 ghost use Prim.Native.Nat.{min, _<_};
 ghost use lib.Dec.{eqb};
 ghost use lib.ListN.{getD};
-ghost use Rattle.facts.specs.Memory.{ROOM, TABLES};
+ghost use Rattle.facts.specs.Memory.{ROOM, WIDTH, TABLES};
 ghost use Rattle.facts.specs.Asked.{hasIn};
 ghost use Rattle.edits.specs.Least.{NONE, place};
-ghost use Rattle.edits.specs.Memory.{ask, numberOn};
+ghost use Rattle.edits.specs.Memory.{ask, numberOn, sameField, alikeOn};
 ghost use Rattle.edits.specs.Positions.{fresh, freshAfter, freshBefore, freshBeside, claims};
 ghost use Rattle.edits.specs.Positions.{knows, unknown, keptAfter};
 
@@ -104,6 +110,26 @@ pub fn number_in(facts: &[[u32; FACTS]; TABLES], t: usize, i: usize) -> u32
     ensures { λ z. ⌜ z ≡ numberOn (now (facts .entry)) t i ⌝ }
 {
     number_on(&facts[t], i)
+}
+
+// ---- a position that is old's
+
+fn same_field(facts: &[u32; FACTS], old: &[u32; FACTS], l: usize, o: usize, i: usize) -> bool
+    requires { ⌜ (l < ROOM) × ((o < ROOM) × (i < WIDTH)) ⌝ }
+    ensures { λ z. ⌜ z ≡ sameField (now (facts .entry)) (now (old .entry)) l o i ⌝ }
+{
+    field_on(facts, l, i) == field_on(old, o, i)
+}
+
+// The position on a line is that on a line of old. All five fields are looked at, so that the compiler takes them together.
+pub fn alike_lines(facts: &[u32; FACTS], old: &[u32; FACTS], l: usize, o: usize) -> bool
+    requires { ⌜ (l < ROOM) × (o < ROOM) ⌝ }
+    ensures { λ z. ⌜ z ≡ alikeOn (now (facts .entry)) (now (old .entry)) l o ⌝ }
+{
+    same_field(facts, old, l, o, PARENT)
+        & (same_field(facts, old, l, o, FORERUNNER)
+            & (same_field(facts, old, l, o, FOLLOWER)
+                & (same_field(facts, old, l, o, FIRST) & same_field(facts, old, l, o, LAST))))
 }
 
 // ---- edits

@@ -27,7 +27,7 @@ use Rattle.facts.specs.Asked.{Asked, hasIn, asked}
 use Rattle.facts.proofs.Views.{lists}
 use Rattle.facts.specs.Holds.{Holds}
 use Rattle.facts.proofs.Shown.{shown, number-has, has-number}
-use Rattle.edits.specs.Least.{NONE, leastOr, place}
+use Rattle.edits.specs.Least.{NONE, leastOr}
 use Rattle.edits.specs.Memory.{ask, numberOn}
 use Rattle.edits.proofs.Branches.{IsBranch}
 use Rattle.edits.proofs.Best.{PlaceIn, place-in, place-le, min-in, best-of-is}

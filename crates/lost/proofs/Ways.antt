@@ -1,13 +1,26 @@
 -- What is found lost, way by way through the code: the premises are what the code has tested and asked. q k is asked of table k and m of
 -- the merged table; o, s, u are neighbours, r is a parent, n a record. Assumes nothing.
-use mathlib.Core.Path.{_≡_, ap, _∙_}
-use mathlib.Core.Bool.{Bool, true, false, not}
+use mathlib.Core.Path.{_≡_, sym, ap, _∙_}
+use mathlib.Core.Bool.{Bool, true, false, not, _&&_, and-true, and-false}
 use Prim.Native.Nat.{ℕ, min}
+use lib.Dec.{eqb}
+use borrow.Author.Tests.{eq-eqb, ne-eqb}
 use Rattle.facts.specs.Asked.{Asked}
 use Rattle.edits.specs.Least.{NONE, place}
+use Rattle.edits.specs.Positions.{fresh}
 use Rattle.edits.proofs.Ways.{and-then}
 use Rattle.contents.specs.Contents.{Told, freshContent}
 use Rattle.lost.specs.Lost.{lostPosition, lostContent, lostPlace}
+
+-- old is asked only where the branch and the merged table differ; a, b and c are the three neighbours
+module _ (a b c s u : ℕ) (es : s ≡ b) (eu : u ≡ c) where
+  pub after-same : s ≡ u → false ≡ (fresh a b && not (eqb b c))
+  after-same h = sym (ap (λ (z : Bool). fresh a b && not z) (eq-eqb b c (sym es ∙ h ∙ eu)) ∙ and-false (fresh a b))
+
+  pub after-other : (o : ℕ) (z : Bool) → (s ≡ u → ⊥) → o ≡ a → z ≡ fresh o s → z ≡ (fresh a b && not (eqb b c))
+  after-other o z h eo ez =
+      ez ∙ (λ i. fresh (eo i) (es i))
+      ∙ sym (ap (λ (z : Bool). fresh a b && not z) (ne-eqb b c (λ e. h (es ∙ e ∙ sym eu))) ∙ and-true (fresh a b))
 
 module _ (w : ℕ → Told) (has : ℕ → Bool) (k n : ℕ) where
   pub content-there : (h : Bool) → h ≡ has n → h ≡ true → NONE ≡ lostContent w has k n

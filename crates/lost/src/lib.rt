@@ -1,6 +1,7 @@
-// 25: edits that the merged table lacks, and the least record or parent of one, by a fixed number of questions on each line of each branch.
-// `ls` and `fs` are the arrays of the merged table; n is a record, r a parent, p the one before, t a table, i a line.
-use contents::fresh_content;
+// 25: edits that the merged table lacks, and the least record or parent of one, by a fixed number of questions on each line of each branch
+// that is marked as new. `ls` and `fs` are the arrays of the merged table; `texts` is not looked at: it says what the marks are of. n is a
+// record, r a parent, p the one before, t a table, i a line.
+use contents::marks::edited;
 use edits::NONE;
 use edits::follower_in;
 use edits::fresh;
@@ -10,18 +11,21 @@ use edits::place;
 use edits::smaller;
 use facts::FACTS;
 use facts::NUMBERS;
+use facts::ROOM;
 use facts::TABLES;
 use facts::follower;
 use facts::has;
 use rules::record::Record;
 ghost use mathlib.Core.Path.{_≡_};
-ghost use mathlib.Core.List.{map};
+ghost use mathlib.Core.List.{[], map};
 ghost use Prim.Native.Nat.{ℕ, _<_};
-ghost use lib.ListN.{length, getD};
+ghost use lib.ListN.{getD};
+ghost use Rattle.rules.specs.Marks.{START};
 ghost use Rattle.facts.specs.Memory.{ROOM, TABLES};
 ghost use Rattle.facts.specs.Asked.{hasIn, asked};
-ghost use Rattle.edits.specs.Memory.{ask};
+ghost use Rattle.edits.specs.Memory.{ask, numberOn};
 ghost use Rattle.contents.specs.Memory.{tell};
+ghost use Rattle.contents.specs.Marks.{LinedTable, Lined, markOn, MarkedTable, Marked, Noted};
 ghost use Rattle.lost.specs.Lost.{lostAfter, lostPosition, lostContent, lostOn, lostIn, allLost};
 
 // The edit of who follows `p` under `r` is lost.
@@ -37,13 +41,13 @@ fn lost_after(
     requires { ⌜ t < TABLES ⌝ }
     ensures { λ z. ⌜ z ≡ lostAfter (ask (now (lines .entry)) (now (facts .entry))) (asked (now (ls .entry)) (now (fs .entry))) t r p ⌝ }
 {
-    let o = follower_in(lines, facts, 0, r, p);
     let s = follower_in(lines, facts, t, r, p);
-    if fresh(o, s) {
-        let m = follower(ls, fs, r, p);
-        return s != m;
+    let m = follower(ls, fs, r, p);
+    if s == m {
+        return false;
     }
-    false
+    let o = follower_in(lines, facts, 0, r, p);
+    fresh(o, s)
 }
 
 // The lesser parent of a lost edit behind the record, or at the start of its own list.
@@ -71,53 +75,66 @@ fn lost_content<'a>(
     texts: &[&'a [u8]],
     lines: &[[u16; NUMBERS]; TABLES],
     facts: &[[u32; FACTS]; TABLES],
+    marks: &[[u8; ROOM]; TABLES],
     ls: &[u16; NUMBERS],
     t: usize,
     n: u32,
 ) -> u32
-    requires { ⌜ (t < TABLES) × (length (now texts) ≡ TABLES) ⌝ }
+    requires { ⌜ (0 < t) × (t < TABLES) ⌝ }
+    requires { ⌜ Noted (map now (now texts)) (now lines) (now facts) (now marks) ⌝ }
     ensures { λ z.
         ⌜ z ≡ lostContent (tell (map now (now (texts .entry))) (now (lines .entry)) (now (facts .entry))) (hasIn (now (ls .entry))) t n ⌝ }
 {
     if has(ls, n) {
         return NONE;
     }
-    let test = fresh_content(texts, lines, facts, t, n);
+    let test = edited(lines, marks, t, n);
     place(test, n)
 }
 
-// What shows at the record on a line.
+// What shows at the record on a line; where it stands as in old, no edit of its position is lost.
 fn lost_on<'a>(
     texts: &[&'a [u8]],
     lines: &[[u16; NUMBERS]; TABLES],
     facts: &[[u32; FACTS]; TABLES],
+    marks: &[[u8; ROOM]; TABLES],
     ls: &[u16; NUMBERS],
     fs: &[u32; FACTS],
     t: usize,
     i: usize,
 ) -> u32
-    requires { ⌜ (t < TABLES) × (i < ROOM) × (length (now texts) ≡ TABLES) ⌝ }
+    requires { ⌜ ((0 < t) × (t < TABLES)) × (i < ROOM) ⌝ }
+    requires { ⌜ Noted (map now (now texts)) (now lines) (now facts) (now marks) ⌝ }
+    requires { ⌜ numberOn (now facts) t i < START ⌝ }
+    requires { ⌜ getD (getD (now marks) t []) i 0 ≡ markOn (map now (now texts)) (now lines) (now facts) t i ⌝ }
     ensures { λ z.
         ⌜ z ≡ lostOn (map now (now (texts .entry))) (now (lines .entry)) (now (facts .entry))
         (now (ls .entry)) (now (fs .entry)) t i ⌝ }
 {
     let n = number_in(facts, t, i);
-    let a = lost_position(lines, facts, ls, fs, t, n);
-    let b = lost_content(texts, lines, facts, ls, t, n);
-    smaller(a, b)
+    let content = lost_content(texts, lines, facts, marks, ls, t, n);
+    if marks[t][i] < 2 {
+        return content;
+    }
+    let position = lost_position(lines, facts, ls, fs, t, n);
+    smaller(position, content)
 }
 
-// On all lines of a branch with so many records.
+// On all lines of a branch with so many records; where nothing is new, nothing is lost.
 fn lost_in<'a>(
     texts: &[&'a [u8]],
     lines: &[[u16; NUMBERS]; TABLES],
     facts: &[[u32; FACTS]; TABLES],
+    marks: &[[u8; ROOM]; TABLES],
     ls: &[u16; NUMBERS],
     fs: &[u32; FACTS],
     t: usize,
     count: usize,
 ) -> u32
-    requires { ⌜ (t < TABLES) × (count < ROOM) × (length (now texts) ≡ TABLES) ⌝ }
+    requires { ⌜ ((0 < t) × (t < TABLES)) × (count < ROOM) ⌝ }
+    requires { ⌜ Noted (map now (now texts)) (now lines) (now facts) (now marks) ⌝ }
+    requires { ⌜ LinedTable (getD (now lines) t []) (getD (now facts) t []) count ⌝ }
+    requires { ⌜ MarkedTable (map now (now texts)) (now lines) (now facts) t count (getD (now marks) t []) ⌝ }
     ensures { λ z.
         ⌜ z ≡ lostIn (map now (now (texts .entry))) (now (lines .entry)) (now (facts .entry))
         (now (ls .entry)) (now (fs .entry)) t count ⌝ }
@@ -125,8 +142,10 @@ fn lost_in<'a>(
     let mut least = NONE;
     let mut i: usize = 0;
     while i <= count {
-        let at = lost_on(texts, lines, facts, ls, fs, t, i);
-        least = smaller(least, at);
+        if marks[t][i] != 0 {
+            let at = lost_on(texts, lines, facts, marks, ls, fs, t, i);
+            least = smaller(least, at);
+        }
         i += 1;
     }
     least
@@ -137,11 +156,14 @@ pub fn least_lost<'a>(
     texts: &[&'a [u8]],
     lines: &[[u16; NUMBERS]; TABLES],
     facts: &[[u32; FACTS]; TABLES],
+    marks: &[[u8; ROOM]; TABLES],
     counts: &[usize; TABLES],
     ls: &[u16; NUMBERS],
     fs: &[u32; FACTS],
 ) -> u32
-    requires { ⌜ ((k : ℕ) → k < TABLES → getD (now counts) k 0 < ROOM) × (length (now texts) ≡ TABLES) ⌝ }
+    requires { ⌜ ((k : ℕ) → k < TABLES → getD (now counts) k 0 < ROOM) ⌝ }
+    requires { ⌜ Lined (now lines) (now facts) (now counts) ⌝ }
+    requires { ⌜ Marked (map now (now texts)) (now lines) (now facts) (now counts) (now marks) ⌝ }
     ensures { λ z.
         ⌜ z ≡ allLost (map now (now (texts .entry))) (now (lines .entry)) (now (facts .entry))
         (now (ls .entry)) (now (fs .entry)) (now (counts .entry)) ⌝ }
@@ -149,7 +171,7 @@ pub fn least_lost<'a>(
     let mut least = NONE;
     let mut t: usize = 1;
     while t < TABLES {
-        let in_branch = lost_in(texts, lines, facts, ls, fs, t, counts[t]);
+        let in_branch = lost_in(texts, lines, facts, marks, ls, fs, t, counts[t]);
         least = smaller(least, in_branch);
         t += 1;
     }

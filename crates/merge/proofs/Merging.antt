@@ -15,6 +15,8 @@ use Rattle.rules.specs.Ledger.{Entry, entriesOf}
 use Rattle.rules.specs.Calls.{Outcome, clash, told, packed, judged, mergeTables, answerOf, tableAfter, ledgerAfter}
 use Rattle.rules.specs.declared.answers.Merged.{Merged}
 use Rattle.facts.specs.Memory.{ROOM, TABLES}
+use Rattle.contents.specs.Marks.{Lined}
+use Rattle.contents.proofs.Marking.{lined-tables}
 use Rattle.judge.specs.declared.Judged.{Judged}
 use Rattle.judge.specs.Judged.{InMemory, Judges}
 use Rattle.pack.specs.Packed.{PackReady, Ends, Packs}
@@ -39,6 +41,10 @@ module _ (texts lines facts : List (List ℕ)) (counts : List ℕ) where
   -- there is room for the lines of every table
   pub ready-few : Ready texts lines facts counts → (k : ℕ) → k < TABLES → getD counts k 0 < ROOM
   ready-few r k h = omega (arith, r .tables .counted k h, r .tables .few k h)
+
+  -- their lines and numbers fit together
+  pub ready-lined : Ready texts lines facts counts → Lined lines facts counts
+  ready-lined r = lined-tables texts lines facts (r .old) (r .branches) (r .tables .side) counts (r .tables .counted)
 
   module _ (ls fs : List ℕ) (z : Judged) (j : Judges texts lines facts counts ls fs z) where
     -- ---- a clash
@@ -79,4 +85,4 @@ module _ (texts lines facts : List (List ℕ)) (counts : List ℕ) where
               ∙ sym (outcome-merged old branches (length table) (length ledger) (treeOf (w .t)) (w .is)))
               (p .all (w .t) (w .stored) (w .order) (w .counted))
 
-pub ruleset merges = (ready-few, merge-refused, pack-ready, merge-packed, needs)
+pub ruleset merges = (ready-few, ready-lined, merge-refused, pack-ready, merge-packed, needs)

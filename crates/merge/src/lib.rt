@@ -1,6 +1,9 @@
-// The merge of tables that were read: they are judged, and the merged one, if there is one, is packed into the two lent buffers.
+// The merge of tables that were read: what is new on their lines is noted, they are judged, and the merged one, if there is one, is packed
+// into the two lent buffers.
+use contents::marks::mark_branches;
 use facts::FACTS;
 use facts::NUMBERS;
+use facts::ROOM;
 use facts::TABLES;
 use judge::judge;
 use pack::pack;
@@ -39,9 +42,11 @@ pub fn merge_tables<'a>(
         ⌜ MergesTables (map now (now (texts .entry))) (now (lines .entry)) (now (facts .entry)) (now (counts .entry))
         (now (table .entry)) (now (ledger .entry)) r (now (table .exit)) (now (ledger .exit)) ⌝ }
 {
+    let mut marks = [[0u8; ROOM]; TABLES];
+    mark_branches(texts, lines, facts, counts, &mut marks);
     let mut ls = [0u16; NUMBERS];
     let mut fs = [0u32; FACTS];
-    let judged = judge(texts, lines, facts, counts, &mut ls, &mut fs);
+    let judged = judge(texts, lines, facts, &marks, counts, &mut ls, &mut fs);
     let code = judged.code;
     if code != ACCEPTED {
         return refused(code, 0, judged.place);

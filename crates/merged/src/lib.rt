@@ -22,9 +22,9 @@ ghost use mathlib.Core.Bool.{_&&_};
 ghost use mathlib.Core.List.{map};
 ghost use Prim.Native.Nat.{_<_, _-_};
 ghost use lib.Dec.{ltb};
-ghost use lib.ListN.{length};
 ghost use Rattle.rules.specs.Marks.{isRecord};
-ghost use Rattle.facts.specs.Memory.{NUMBERS, ROOM, TABLES};
+ghost use Rattle.facts.specs.Memory.{NUMBERS, ROOM};
+ghost use Rattle.contents.specs.Marks.{Noted};
 ghost use Rattle.merged.specs.Laying.{RecordLaid, LaidDown};
 ghost use Rattle.merged.specs.Memory.{keptNext, keptPart};
 
@@ -49,20 +49,22 @@ fn lay_record<'a>(
     texts: &[&'a [u8]],
     lines: &[[u16; NUMBERS]; TABLES],
     facts: &[[u32; FACTS]; TABLES],
+    marks: &[[u8; ROOM]; TABLES],
     ls: &mut [u16; NUMBERS],
     fs: &mut [u32; FACTS],
     l: usize,
     s: u32,
     r: u32,
 )
-    requires { ⌜ (length (now texts) ≡ TABLES) × ((l < ROOM) × (s < NUMBERS)) ⌝ }
+    requires { ⌜ (l < ROOM) × (s < NUMBERS) ⌝ }
+    requires { ⌜ Noted (map now (now texts)) (now lines) (now facts) (now marks) ⌝ }
     ensures { λ z.
         ⌜ RecordLaid (keptPart (map now (now (texts .entry))) (now (lines .entry)) (now (facts .entry)))
         (now (ls .entry)) (now (fs .entry)) (now (ls .exit)) (now (fs .exit)) l s r ⌝ }
 {
     column(ls);
     width(fs);
-    let k = kept_content(texts, lines, facts, s);
+    let k = kept_content(texts, lines, facts, marks, s);
     add_line(ls, fs, l, s, r, k.place, k.length);
 }
 
@@ -71,10 +73,11 @@ pub fn lay_down<'a>(
     texts: &[&'a [u8]],
     lines: &[[u16; NUMBERS]; TABLES],
     facts: &[[u32; FACTS]; TABLES],
+    marks: &[[u8; ROOM]; TABLES],
     ls: &mut [u16; NUMBERS],
     fs: &mut [u32; FACTS],
 ) -> LaidOut
-    requires { ⌜ length (now texts) ≡ TABLES ⌝ }
+    requires { ⌜ Noted (map now (now texts)) (now lines) (now facts) (now marks) ⌝ }
     ensures { λ z.
         ⌜ LaidDown (keptNext (now (lines .entry)) (now (facts .entry)))
         (keptPart (map now (now (texts .entry))) (now (lines .entry)) (now (facts .entry)))
@@ -91,7 +94,7 @@ pub fn lay_down<'a>(
         if follows(s, count) {
             count += 1;
             lists += 1;
-            lay_record(texts, lines, facts, ls, fs, count, s, r);
+            lay_record(texts, lines, facts, marks, ls, fs, count, s, r);
             r = s;
             p = Record::START.number;
             continue;

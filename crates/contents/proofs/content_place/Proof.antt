@@ -8,15 +8,15 @@ use Rattle.contents.proofs.content_place.Lts as lts
 use Rattle.contents.proofs.two_contents.Reads as two-contents-reads
 use Rattle.edits.proofs.place.Reads as place-reads
 
--- src/lib.rt:207:9
+-- src/lib.rt:235:9
 two-contents-requires : tie.Need-two-contents-requires
 two-contents-requires c κs = search needs
 
--- src/lib.rt:208:5
+-- src/lib.rt:236:5
 place-requires : tie.Need-place-requires
 place-requires c κs = search needs
 
--- src/lib.rt:197:1
+-- src/lib.rt:223:1
 returns : tie.Need-returns
 returns c = search asks
 

@@ -2,54 +2,51 @@
 use mathlib.Core.Path.{_∙_}
 use mathlib.Core.Logic.{inl, inr}
 use mathlib.Core.Bool.{Bool}
-use mathlib.Core.List.{map}
 use Prim.Native.Nat.{ℕ, _-_}
 use denote.Ref.{now}
 use Rattle.facts.specs.Memory.{TABLES}
-use Rattle.contents.specs.Contents.{freshContent}
-use Rattle.contents.specs.Memory.{tell}
+use Rattle.contents.specs.Marks.{editedIn}
 use Rattle.contents.proofs.Sources.{Seeking, seek-first, seek-more, seek-on, seek-moved, seeks}
 use Rattle.contents.proofs.content_source.Statement.{statement}
 use Rattle.contents.proofs.content_source.Tie as tie
 use Rattle.contents.proofs.content_source.Reads as reads
 use Rattle.contents.proofs.content_source.Lts as lts
-use Rattle.contents.proofs.fresh_content.Reads as fresh-content-reads
+use Rattle.contents.proofs.marks.edited.Reads as edited-reads
 
 abbrev Inv-loop : tie.InvT-loop
-Inv-loop texts lines facts n table₀ origin₀ t₀ table origin t =
-    Seeking (λ k. freshContent (tell (map now texts) lines facts) k n) t table origin
+Inv-loop lines marks n table₀ origin₀ t₀ table origin t = Seeking (λ k. editedIn lines marks k n) t table origin
 
 abbrev μ-loop : tie.MeasureT-loop
-μ-loop texts lines facts n table₀ origin₀ t₀ table origin t = TABLES - t
+μ-loop lines marks n table₀ origin₀ t₀ table origin t = TABLES - t
 
--- src/lib.rt:163:5
+-- src/lib.rt:184:5
 loop-holds : tie.Need-loop-holds Inv-loop μ-loop
 loop-holds c = search seeks
 
--- src/lib.rt:164:12
-fresh-content-requires : tie.Need-fresh-content-requires Inv-loop μ-loop
-fresh-content-requires c κs = search seeks
+-- src/lib.rt:185:12
+edited-requires : tie.Need-edited-requires Inv-loop μ-loop
+edited-requires c κs = search seeks
 
--- src/lib.rt:168:13
+-- src/lib.rt:189:13
 add-origin : tie.Need-add-origin Inv-loop μ-loop
 add-origin c = search seeks
 
--- src/lib.rt:170:9
+-- src/lib.rt:191:9
 add-t : tie.Need-add-t Inv-loop μ-loop
 add-t c = search seeks
 
--- src/lib.rt:163:5
+-- src/lib.rt:184:5
 loop-less : tie.Need-loop-less Inv-loop μ-loop
 loop-less c = search seeks
 
--- src/lib.rt:163:5
+-- src/lib.rt:184:5
 loop-again : tie.Need-loop-again Inv-loop μ-loop
 loop-again c =
     let s = c .before .before .before .before .args in
-    let test : ℕ → Bool = λ k. freshContent (tell (map now (now (s .texts))) (now (s .lines)) (now (s .facts))) k (s .n) in
+    let test : ℕ → Bool = λ k. editedIn (now (s .lines)) (now (s .marks)) k (s .n) in
     let w = c .before .before .before .loop .inv in
     let low = c .before .before .loop-test .taken in
-    let asked = c .before .fresh-content .ensures in
+    let asked = c .before .edited .ensures in
     elim (c .if1 .came) [
       | inl u ↦ elim (u .1 .came) [
         | inl v ↦ seek-moved test _ _ _ (seek-first test _ _ _ w _ low asked (u .0 .taken) (v .0 .taken)) (u .2 ∙ v .1) (u .3)
@@ -58,7 +55,7 @@ loop-again c =
       | inr u ↦ seek-moved test _ _ _ (seek-on test _ _ _ w _ low asked (u .0 .left)) (u .1) (u .2)
     ]
 
--- src/lib.rt:148:1
+-- src/lib.rt:175:1
 returns : tie.Need-returns Inv-loop μ-loop
 returns c = (search seeks, (search seeks, (search seeks, search seeks)))
 
@@ -69,7 +66,7 @@ content-source-spec =
     Inv-loop
     μ-loop
     loop-holds
-    fresh-content-requires
+    edited-requires
     add-origin
     add-t
     loop-less

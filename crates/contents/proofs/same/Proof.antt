@@ -1,61 +1,32 @@
--- The proof of `same`: the answer so far and what is left (Comparing). Assumes nothing.
-use Prim.Native.Nat.{_-_}
-use lib.ListN.{length}
-use Rattle.contents.proofs.Comparing.{Compared, compares}
+-- The proof of `same`: the lengths, then the bytes (Comparing). Assumes nothing.
+use Rattle.contents.proofs.Comparing.{compares}
+use borrow.Author.Needs.{needs}
 use Rattle.contents.proofs.same.Statement.{statement}
 use Rattle.contents.proofs.same.Tie as tie
 use Rattle.contents.proofs.same.Reads as reads
 use Rattle.contents.proofs.same.Lts as lts
+use Rattle.contents.proofs.same_long.Reads as same-long-reads
+use Rattle.contents.proofs.same_short.Reads as same-short-reads
 
-abbrev Inv-loop : tie.InvT-loop
-Inv-loop a b z₀ i₀ z i = Compared a b z i
-
-abbrev μ-loop : tie.MeasureT-loop
-μ-loop a b z₀ i₀ z i = length a - i
-
--- src/lib.rt:30:9
-returns : tie.Need-returns Inv-loop μ-loop
+-- src/lib.rt:83:9
+returns : tie.Need-returns
 returns c = search compares
 
--- src/lib.rt:34:5
-loop-holds : tie.Need-loop-holds Inv-loop μ-loop
-loop-holds c = search compares
+-- src/lib.rt:86:9
+same-short-requires : tie.Need-same-short-requires
+same-short-requires c κs = search needs
 
--- src/lib.rt:35:18
-shared-slice-read-z : tie.Need-shared-slice-read-z Inv-loop μ-loop
-shared-slice-read-z c = search compares
+-- src/lib.rt:86:9
+returns-2 : tie.Need-returns-2
+returns-2 c = search needs
 
--- src/lib.rt:35:26
-shared-slice-read-z-2 : tie.Need-shared-slice-read-z-2 Inv-loop μ-loop
-shared-slice-read-z-2 c = search compares
+-- src/lib.rt:88:5
+same-long-requires : tie.Need-same-long-requires
+same-long-requires c κs = search needs
 
--- src/lib.rt:36:9
-add-i : tie.Need-add-i Inv-loop μ-loop
-add-i c = search compares
-
--- src/lib.rt:34:5
-loop-less : tie.Need-loop-less Inv-loop μ-loop
-loop-less c = search compares
-
--- src/lib.rt:34:5
-loop-again : tie.Need-loop-again Inv-loop μ-loop
-loop-again c = search compares
-
--- src/lib.rt:26:1
-returns-2 : tie.Need-returns-2 Inv-loop μ-loop
-returns-2 c = search compares
+-- src/lib.rt:79:1
+returns-3 : tie.Need-returns-3
+returns-3 c = search needs
 
 pub same-spec : {M : Type 1} → statement M
-same-spec =
-    tie.close
-    (tie.spec
-    Inv-loop
-    μ-loop
-    returns
-    loop-holds
-    shared-slice-read-z
-    shared-slice-read-z-2
-    add-i
-    loop-less
-    loop-again
-    returns-2)
+same-spec = tie.close (tie.spec returns same-short-requires returns-2 same-long-requires returns-3)

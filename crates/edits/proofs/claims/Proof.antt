@@ -11,19 +11,19 @@ use Rattle.edits.proofs.fresh_beside.Reads as fresh-beside-reads
 use Rattle.edits.proofs.has_in.Reads as has-in-reads
 use Rattle.edits.proofs.parent_in.Reads as parent-in-reads
 
--- src/lib.rt:178:8
+-- src/lib.rt:204:8
 has-in-requires : tie.Need-has-in-requires
 has-in-requires c κs = search needs
 
--- src/lib.rt:179:13
+-- src/lib.rt:205:13
 parent-in-requires : tie.Need-parent-in-requires
 parent-in-requires c κs = search needs
 
--- src/lib.rt:180:9
+-- src/lib.rt:206:9
 fresh-beside-requires : tie.Need-fresh-beside-requires
 fresh-beside-requires c κs = search needs
 
--- src/lib.rt:180:9
+-- src/lib.rt:206:9
 returns : tie.Need-returns
 returns c =
     let s = c .before .before .before .before .args in
@@ -31,7 +31,7 @@ returns c =
     (c .before .before .if1 .taken)
     (c .before .parent-in .ensures) (c .fresh-beside .ensures)
 
--- src/lib.rt:169:1
+-- src/lib.rt:195:1
 returns-2 : tie.Need-returns-2
 returns-2 c = search ways
 

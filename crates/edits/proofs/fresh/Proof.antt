@@ -5,11 +5,11 @@ use Rattle.edits.proofs.fresh.Tie as tie
 use Rattle.edits.proofs.fresh.Reads as reads
 use Rattle.edits.proofs.fresh.Lts as lts
 
--- src/lib.rt:116:9
+-- src/lib.rt:142:9
 returns : tie.Need-returns
 returns c = search ways
 
--- src/lib.rt:112:1
+-- src/lib.rt:138:1
 returns-2 : tie.Need-returns-2
 returns-2 c = search ways
 

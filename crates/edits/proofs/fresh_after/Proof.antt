@@ -8,19 +8,19 @@ use Rattle.edits.proofs.fresh_after.Lts as lts
 use Rattle.edits.proofs.follower_in.Reads as follower-in-reads
 use Rattle.edits.proofs.fresh.Reads as fresh-reads
 
--- src/lib.rt:131:9
+-- src/lib.rt:157:9
 follower-in-requires : tie.Need-follower-in-requires
 follower-in-requires c κs = search needs
 
--- src/lib.rt:132:9
+-- src/lib.rt:158:9
 follower-in-requires-2 : tie.Need-follower-in-requires-2
 follower-in-requires-2 c κs = search needs
 
--- src/lib.rt:133:5
+-- src/lib.rt:159:5
 fresh-requires : tie.Need-fresh-requires
 fresh-requires c κs = search needs
 
--- src/lib.rt:121:1
+-- src/lib.rt:147:1
 returns : tie.Need-returns
 returns c = fresh-of _ _ _ _ _ (c .before .before .follower-in .ensures) (c .before .follower-in2 .ensures) (c .fresh .ensures)
 

@@ -8,19 +8,19 @@ use Rattle.edits.proofs.fresh_before.Lts as lts
 use Rattle.edits.proofs.forerunner_in.Reads as forerunner-in-reads
 use Rattle.edits.proofs.fresh.Reads as fresh-reads
 
--- src/lib.rt:146:9
+-- src/lib.rt:172:9
 forerunner-in-requires : tie.Need-forerunner-in-requires
 forerunner-in-requires c κs = search needs
 
--- src/lib.rt:147:9
+-- src/lib.rt:173:9
 forerunner-in-requires-2 : tie.Need-forerunner-in-requires-2
 forerunner-in-requires-2 c κs = search needs
 
--- src/lib.rt:148:5
+-- src/lib.rt:174:5
 fresh-requires : tie.Need-fresh-requires
 fresh-requires c κs = search needs
 
--- src/lib.rt:136:1
+-- src/lib.rt:162:1
 returns : tie.Need-returns
 returns c = fresh-of _ _ _ _ _ (c .before .before .forerunner-in .ensures) (c .before .forerunner-in2 .ensures) (c .fresh .ensures)
 

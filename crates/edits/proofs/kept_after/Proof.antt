@@ -20,25 +20,25 @@ Inv-loop lines facts r p o kept₀ t₀ kept t = Going (ask lines facts) r p o k
 abbrev μ-loop : tie.MeasureT-loop
 μ-loop lines facts r p o kept₀ t₀ kept t = TABLES - t
 
--- src/lib.rt:241:9
+-- src/lib.rt:267:9
 follower-in-requires : tie.Need-follower-in-requires Inv-loop μ-loop
 follower-in-requires c κs = search needs
 
--- src/lib.rt:244:5
+-- src/lib.rt:270:5
 loop-holds : tie.Need-loop-holds Inv-loop μ-loop
 loop-holds c =
     let s = c .before .args in
     going-start (ask (now (s .lines)) (now (s .facts))) (s .r) (s .p) _
 
--- src/lib.rt:245:13
+-- src/lib.rt:271:13
 follower-in-requires-2 : tie.Need-follower-in-requires-2 Inv-loop μ-loop
 follower-in-requires-2 c κs = search needs
 
--- src/lib.rt:246:12
+-- src/lib.rt:272:12
 fresh-requires : tie.Need-fresh-requires Inv-loop μ-loop
 fresh-requires c κs = search needs
 
--- src/lib.rt:247:13
+-- src/lib.rt:273:13
 returns : tie.Need-returns Inv-loop μ-loop
 returns c =
     let s = c .before .before .before .before .before .before .args in
@@ -47,19 +47,19 @@ returns c =
     (c .before .before .before .before .before .follower-in .ensures) (c .before .before .before .loop-test .taken)
     (c .before .before .follower-in2 .ensures) (c .before .fresh .ensures) (c .if1 .taken)
 
--- src/lib.rt:249:9
+-- src/lib.rt:275:9
 still-kept-requires : tie.Need-still-kept-requires Inv-loop μ-loop
 still-kept-requires c κs = search needs
 
--- src/lib.rt:250:9
+-- src/lib.rt:276:9
 add-t : tie.Need-add-t Inv-loop μ-loop
 add-t c = search needs
 
--- src/lib.rt:244:5
+-- src/lib.rt:270:5
 loop-less : tie.Need-loop-less Inv-loop μ-loop
 loop-less c = search needs
 
--- src/lib.rt:244:5
+-- src/lib.rt:270:5
 loop-again : tie.Need-loop-again Inv-loop μ-loop
 loop-again c =
     let s = c .before .before .before .before .before .before .before .args in
@@ -68,7 +68,7 @@ loop-again c =
     (c .before .before .before .before .loop-test .taken) (c .before .before .before .follower-in2 .ensures)
     (c .before .before .fresh .ensures) (c .before .if1 .left) (c .still-kept .ensures)
 
--- src/lib.rt:233:1
+-- src/lib.rt:259:1
 returns-2 : tie.Need-returns-2 Inv-loop μ-loop
 returns-2 c =
     let s = c .before .before .before .before .args in
@@ -76,7 +76,7 @@ returns-2 c =
     going-kept q (s .r) (s .p) _ _ _ (c .before .before .loop .inv) (c .before .before .before .follower-in .ensures)
     (c .before .loop-test .left) (c .if2 .taken)
 
--- src/lib.rt:233:1
+-- src/lib.rt:259:1
 returns-3 : tie.Need-returns-3 Inv-loop μ-loop
 returns-3 c =
     let s = c .before .before .before .before .args in

@@ -8,6 +8,7 @@ use lib.ListN.{getD}
 use Rattle.facts.specs.Memory.{TABLES}
 use Rattle.edits.specs.Least.{best}
 use Rattle.edits.proofs.Best.{best-branch, leasts}
+use Rattle.contents.proofs.Marking.{noted}
 use Rattle.lost.specs.Lost.{lostIn}
 use Rattle.lost.proofs.least_lost.Statement.{statement}
 use Rattle.lost.proofs.least_lost.Tie as tie
@@ -17,44 +18,48 @@ use Rattle.edits.proofs.smaller.Reads as smaller-reads
 use Rattle.lost.proofs.lost_in.Reads as lost-in-reads
 
 abbrev Inv-loop : tie.InvT-loop
-Inv-loop texts lines facts counts ls fs least₀ t₀ least t =
+Inv-loop texts lines facts marks counts ls fs least₀ t₀ least t =
     (0 < t) × (t ≤ TABLES) × (least ≡ best (λ j. lostIn (map now texts) lines facts ls fs (suc j) (getD counts (suc j) 0)) (t - 1))
 
 abbrev μ-loop : tie.MeasureT-loop
-μ-loop texts lines facts counts ls fs least₀ t₀ least t = TABLES - t
+μ-loop texts lines facts marks counts ls fs least₀ t₀ least t = TABLES - t
 
--- src/lib.rt:151:5
+-- src/lib.rt:173:5
 loop-holds : tie.Need-loop-holds Inv-loop μ-loop
 loop-holds c = search leasts
 
--- src/lib.rt:152:65
+-- src/lib.rt:174:72
 mul-lost-in : tie.Need-mul-lost-in Inv-loop μ-loop
 mul-lost-in c = search leasts
 
--- src/lib.rt:152:65
+-- src/lib.rt:174:72
 element-copy-out-lost-in : tie.Need-element-copy-out-lost-in Inv-loop μ-loop
 element-copy-out-lost-in c = search leasts
 
--- src/lib.rt:152:13
+-- src/lib.rt:174:13
 lost-in-requires : tie.Need-lost-in-requires Inv-loop μ-loop
 lost-in-requires c κs =
-    let s = c .before .before .before in
-    let low = c .before .loop-test .taken in
-    (low, s .pre .0 _ low, s .pre .1)
+    let from = c .before .before .before in
+    let s = from .args in
+    let low = c .before .before .loop .inv .0 in
+    let high = c .before .loop-test .taken in
+    let note = noted (map now (now (s .texts))) (now (s .lines)) (now (s .facts)) (now (s .counts)) (from .pre .1 .0) (now (s .marks))
+    (from .pre .1 .1) in
+    (((low, high), from .pre .0 _ high), (note, (from .pre .1 .0 .tables _ high, from .pre .1 .1 .branches _ low high)))
 
--- src/lib.rt:153:9
+-- src/lib.rt:175:9
 smaller-requires : tie.Need-smaller-requires Inv-loop μ-loop
 smaller-requires c κs = search leasts
 
--- src/lib.rt:154:9
+-- src/lib.rt:176:9
 add-t : tie.Need-add-t Inv-loop μ-loop
 add-t c = search leasts
 
--- src/lib.rt:151:5
+-- src/lib.rt:173:5
 loop-less : tie.Need-loop-less Inv-loop μ-loop
 loop-less c = search leasts
 
--- src/lib.rt:151:5
+-- src/lib.rt:173:5
 loop-again : tie.Need-loop-again Inv-loop μ-loop
 loop-again c =
     let loop = c .before .before .before .before in
@@ -66,7 +71,7 @@ loop-again c =
       best-branch branch _ _ _ _ (loop .loop .inv .0) (loop .loop .inv .2) (c .before .lost-in .ensures) (c .smaller .ensures),
     )
 
--- src/lib.rt:136:1
+-- src/lib.rt:155:1
 returns : tie.Need-returns Inv-loop μ-loop
 returns c = search leasts
 
