@@ -3,6 +3,7 @@
 use std::ffi::OsString;
 use std::fs::File;
 use std::io::{self, Read};
+use std::os::fd::AsFd;
 
 use crate::ends::End;
 use crate::shown;
@@ -53,7 +54,12 @@ impl Source {
 
     fn text(&self) -> io::Result<Vec<u8>> {
         match self {
-            Source::StandardInput => start_of(io::stdin().lock()),
+            // Through a file: Rust's own standard input takes one that can't be
+            // read for an empty one.
+            Source::StandardInput => {
+                let input = io::stdin().as_fd().try_clone_to_owned()?;
+                start_of(File::from(input))
+            }
             Source::File(file) => start_of(File::open(file)?),
         }
     }

@@ -2,8 +2,9 @@
 //! result or stays as it was.
 
 use std::ffi::OsString;
-use std::fs::{self, Metadata, OpenOptions};
+use std::fs::{self, File, Metadata, OpenOptions};
 use std::io::{self, ErrorKind, Write};
+use std::os::fd::AsFd;
 use std::path::{Path, PathBuf};
 
 use crate::ends::End;
@@ -60,6 +61,7 @@ impl Target {
             return Ok(None);
         };
         let permissions = match existing(Path::new(file))? {
+            Some(found) if found.is_dir() => return Err(ErrorKind::IsADirectory.into()),
             Some(found) if !found.is_file() => return Ok(None),
             found => found.map(|file| file.permissions()),
         };
@@ -69,10 +71,11 @@ impl Target {
     /// Writes to what can't be replaced: standard output, a pipe, a device.
     fn write_through(&self, bytes: &[u8]) -> io::Result<()> {
         match self {
+            // Through a file: Rust's own standard output takes what can't be
+            // written for written.
             Target::StandardOutput => {
-                let mut output = io::stdout().lock();
-                output.write_all(bytes)?;
-                output.flush()
+                let output = io::stdout().as_fd().try_clone_to_owned()?;
+                File::from(output).write_all(bytes)
             }
             Target::File(file) => OpenOptions::new().write(true).open(file)?.write_all(bytes),
         }

@@ -138,7 +138,9 @@ fn run_part<C: Judged>(
     let threads = thread::available_parallelism().map_or(1, usize::from);
     let run_every = |first: usize| {
         let mut outcome = Outcome::default();
-        for index in (first * cases.one_in..count).step_by(threads * cases.one_in) {
+        for index in (first.saturating_mul(cases.one_in)..count)
+            .step_by(threads.saturating_mul(cases.one_in))
+        {
             let mut random = Random::for_text(cases.seed, place, index);
             let case = make(index, &mut random);
             outcome.count(index, case.judge(&Library, part.rooms, &mut random));

@@ -34,14 +34,14 @@ const TO_WRITE_TO: &str = concat!(env!("CARGO_MANIFEST_DIR"), "/../../target/fuz
 const BETWEEN_LINES: Duration = Duration::from_secs(60);
 
 fn main() -> ExitCode {
-    let Some(Arguments { time, seed }) = Arguments::read(std::env::args().skip(1)) else {
+    let Some((end, seed)) = end_and_seed() else {
         eprintln!("usage: fuzz [--minutes N] [--seed S]");
         return ExitCode::from(2);
     };
     println!("seed {seed}");
     let mut next_line = Instant::now() + BETWEEN_LINES;
     let mut run = Run::new(&Library, seed);
-    let difference = run.go(Limit::Until(Instant::now() + time), |run| {
+    let difference = run.go(Limit::Until(end), |run| {
         if Instant::now() >= next_line {
             println!("{}", run.so_far());
             next_line += BETWEEN_LINES;
@@ -58,6 +58,12 @@ fn main() -> ExitCode {
         }
         Some(difference) => tell(&difference),
     }
+}
+
+/// None for words that mean nothing, and for more time than a clock can tell.
+fn end_and_seed() -> Option<(Instant, u64)> {
+    let Arguments { time, seed } = Arguments::read(std::env::args().skip(1))?;
+    Some((Instant::now().checked_add(time)?, seed))
 }
 
 fn tell(difference: &Difference) -> ExitCode {

@@ -1,3 +1,5 @@
+//! Words of the command line, and what each must ask for.
+
 use super::*;
 
 fn parsed(words: &[&str]) -> Result<Asked, End> {

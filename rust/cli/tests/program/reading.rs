@@ -38,6 +38,17 @@ fn a_folder_is_no_table() {
     }
 }
 
+/// It must not be taken for an empty table.
+#[test]
+fn a_standard_input_open_for_writing_only_is_file_trouble() {
+    let desk = Desk::new("input-to-write");
+    for words in ["check -", "merge - first.txt second.txt --table first.txt"] {
+        let mut program = desk.program(words.split(' '));
+        program.stdin(File::create(desk.path("written.txt")).unwrap());
+        ran(program.output().unwrap()).troubled("standard input: Bad file descriptor");
+    }
+}
+
 #[test]
 fn an_endless_text_is_answered() {
     let desk = Desk::new("endless");

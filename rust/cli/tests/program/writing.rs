@@ -67,6 +67,7 @@ fn trouble_with_one_target_changes_no_file() {
     ] {
         for words in [
             format!("{MERGE} --table {bad}"),
+            format!("{MERGE} --ledger {bad}"),
             format!("{MERGE} --table {bad} --ledger new.txt"),
             format!("{MERGE} --table new.txt --ledger {bad}"),
             format!("{MERGE} --ledger {bad} --table first.txt"),
@@ -192,6 +193,22 @@ fn a_full_standard_output_is_file_trouble_and_no_file_is_changed() {
     ] {
         let ran = desk.run_onto(words, "/dev/full");
         ran.troubled("standard output: No space left");
+    }
+    assert_eq!(desk.all(), before);
+}
+
+#[test]
+fn a_standard_output_open_for_reading_only_is_file_trouble_and_no_file_is_changed() {
+    let desk = Desk::new("output-to-read");
+    let before = desk.all();
+    for words in [
+        &format!("{MERGE} --ledger first.txt"),
+        "check old.txt",
+        "--help",
+    ] {
+        let mut program = desk.program(words.split(' '));
+        program.stdout(File::open(desk.path("old.txt")).unwrap());
+        ran(program.output().unwrap()).troubled("standard output: Bad file descriptor");
     }
     assert_eq!(desk.all(), before);
 }
