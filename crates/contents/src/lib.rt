@@ -76,7 +76,7 @@ fn same_short(a: &[u8], b: &[u8]) -> bool
 }
 
 // "Contents are equal when their bytes are."
-pub fn same(a: &[u8], b: &[u8]) -> bool
+fn same(a: &[u8], b: &[u8]) -> bool
     ensures { λ z. ⌜ z ≡ sameContent (now (a .entry)) (now (b .entry)) ⌝ }
 {
     if a.len() != b.len() {
@@ -89,7 +89,7 @@ pub fn same(a: &[u8], b: &[u8]) -> bool
 }
 
 // So many bytes of a text; none, if they do not all lie there.
-pub fn cut<'a>(text: &'a [u8], start: u32, long: u32) -> &'a [u8]
+fn cut<'a>(text: &'a [u8], start: u32, long: u32) -> &'a [u8]
     ensures { λ r. ⌜ now r ≡ cut (now (text .entry)) start long ⌝ }
 {
     let from = start as usize;

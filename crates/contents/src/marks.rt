@@ -1,6 +1,6 @@
-// What is new on each line of each branch, noted once: contents are compared here, and whoever seeks edits looks only at marked lines. A
-// mark is 0 where nothing is new; 1 is added for a content that old does not have, 2 for a position that is not old's. n is a record, i a
-// line, o the line of its number in old, t a table.
+// What is new on each line of each branch, noted once: contents are compared with old's here and nowhere else, and whoever seeks clashes or
+// lost edits looks only at marked lines. A mark is 0 where nothing is new; 1 is added for a content that old does not have, 2 for a
+// position that is not old's. n is a record, i a line, o the line of its number in old, t a table.
 use crate::content_on;
 use crate::same;
 use edits::alike_lines;

@@ -1,6 +1,6 @@
 // Positions of the tables side by side: which facts are edits, where two edits clash, and who follows by the kept facts. Table 0 is
 // old, the others are the branches. All of it is asked of one table at a time; 0 is the answer "none". n is a record, r a parent, p the
-// one before, s the one after, o what old answers, or a line of old; t is a table, l a line.
+// one before, s the one after, o what old answers, or a line of old; t is a table, l a line, i a line or a field.
 pub mod clash;
 
 use facts::FACTS;
@@ -59,7 +59,7 @@ pub fn place(test: bool, n: u32) -> u32
 
 // ---- the tables
 
-pub fn has_in(lines: &[[u16; NUMBERS]; TABLES], t: usize, n: u32) -> bool
+fn has_in(lines: &[[u16; NUMBERS]; TABLES], t: usize, n: u32) -> bool
     requires { ⌜ t < TABLES ⌝ }
     ensures { λ z. ⌜ z ≡ hasIn (getD (now (lines .entry)) t []) n ⌝ }
 {
@@ -91,7 +91,7 @@ pub fn follower_in(
     follower(&lines[t], &facts[t], r, p)
 }
 
-pub fn forerunner_in(
+fn forerunner_in(
     lines: &[[u16; NUMBERS]; TABLES],
     facts: &[[u32; FACTS]; TABLES],
     t: usize,
@@ -192,7 +192,7 @@ fn fresh_beside(
 }
 
 // An edit gives the record its parent.
-pub fn claims(
+fn claims(
     lines: &[[u16; NUMBERS]; TABLES],
     facts: &[[u32; FACTS]; TABLES],
     t: usize,

@@ -1,4 +1,4 @@
--- The proof of `merge_tables`: judged, then refused or packed. Assumes nothing.
+-- The proof of `merge_tables`: marked, judged, then refused or packed. Assumes nothing.
 use Rattle.merge.proofs.Merging.{pack-ready, ready-few, merges}
 use borrow.Author.Needs.{needs}
 use Rattle.merge.proofs.merge_tables.Statement.{statement}
@@ -20,15 +20,15 @@ judge-requires c κs =
     let s = c .before .before .before .before .before .before .before in
     ((ready-few _ _ _ _ (s .pre .0), s .pre .1), (search merges, (search merges, (search merges, search merges))))
 
--- src/lib.rt:60:9
+-- src/lib.rt:52:9
 refused-requires : tie.Need-refused-requires
 refused-requires c κs = search needs
 
--- src/lib.rt:60:9
+-- src/lib.rt:52:9
 returns : tie.Need-returns
 returns c = search merges
 
--- src/lib.rt:62:5
+-- src/lib.rt:54:5
 pack-requires : tie.Need-pack-requires
 pack-requires c κs =
     let judged = c .before .before .before .before .before in
