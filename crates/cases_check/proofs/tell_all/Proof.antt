@@ -15,43 +15,43 @@ Inv-loop cases at₀ at = Unit {0}
 abbrev μ-loop : tie.MeasureT-loop
 μ-loop cases at₀ at = length cases - at
 
--- src/main.rt:25:5
+-- src/main.rt:26:5
 loop-holds : tie.Need-loop-holds Inv-loop μ-loop
 loop-holds c = search needs
 
--- src/main.rt:26:13
+-- src/main.rt:27:13
 part-end-requires : tie.Need-part-end-requires Inv-loop μ-loop
 part-end-requires c κs = search needs
 
--- src/main.rt:27:14
+-- src/main.rt:28:14
 sub-tell : tie.Need-sub-tell Inv-loop μ-loop
 sub-tell c = search needs
 
--- src/main.rt:27:14
+-- src/main.rt:28:14
 part-tell-start : tie.Need-part-tell-start Inv-loop μ-loop
 part-tell-start c = search needs
 
--- src/main.rt:27:14
+-- src/main.rt:28:14
 part-tell-end : tie.Need-part-tell-end Inv-loop μ-loop
 part-tell-end c = search needs
 
--- src/main.rt:27:9
+-- src/main.rt:28:9
 tell-requires : tie.Need-tell-requires Inv-loop μ-loop
 tell-requires c κs = search needs
 
--- src/main.rt:28:14
+-- src/main.rt:29:14
 add-at : tie.Need-add-at Inv-loop μ-loop
 add-at c = search needs
 
--- src/main.rt:25:5
+-- src/main.rt:26:5
 loop-less : tie.Need-loop-less Inv-loop μ-loop
 loop-less c = search needs
 
--- src/main.rt:25:5
+-- src/main.rt:26:5
 loop-again : tie.Need-loop-again Inv-loop μ-loop
 loop-again c = search needs
 
--- src/main.rt:23:1
+-- src/main.rt:24:1
 returns : tie.Need-returns Inv-loop μ-loop
 returns c = search needs
 

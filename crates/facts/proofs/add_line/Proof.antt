@@ -9,31 +9,31 @@ use Rattle.facts.proofs.field.Reads as field-reads
 use Rattle.facts.proofs.hang.Reads as hang-reads
 use Rattle.facts.proofs.lay.Reads as lay-reads
 
--- src/lib.rt:286:9
+-- src/lib.rt:294:9
 field-requires : tie.Need-field-requires
 field-requires c κs = search needs
 
--- src/lib.rt:287:25
+-- src/lib.rt:295:25
 cast-lines : tie.Need-cast-lines
 cast-lines c = search needs
 
--- src/lib.rt:287:5
+-- src/lib.rt:295:5
 mul-lines : tie.Need-mul-lines
 mul-lines c = search needs
 
--- src/lib.rt:287:5
+-- src/lib.rt:295:5
 element-write-lines : tie.Need-element-write-lines
 element-write-lines c = search needs
 
--- src/lib.rt:288:5
+-- src/lib.rt:296:5
 lay-requires : tie.Need-lay-requires
 lay-requires c κs = search needs
 
--- src/lib.rt:289:5
+-- src/lib.rt:297:5
 hang-requires : tie.Need-hang-requires
 hang-requires c κs = search needs
 
--- src/lib.rt:271:1
+-- src/lib.rt:279:1
 returns : tie.Need-returns
 returns c = search stores
 

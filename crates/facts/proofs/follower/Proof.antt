@@ -9,35 +9,35 @@ use Rattle.facts.proofs.child.Reads as child-reads
 use Rattle.facts.proofs.field.Reads as field-reads
 use Rattle.facts.proofs.list.Reads as list-reads
 
--- src/lib.rt:177:12
+-- src/lib.rt:185:12
 list-requires : tie.Need-list-requires
 list-requires c κs = search needs
 
--- src/lib.rt:178:13
+-- src/lib.rt:186:13
 field-requires : tie.Need-field-requires
 field-requires c κs = search needs
 
--- src/lib.rt:178:13
+-- src/lib.rt:186:13
 returns : tie.Need-returns
 returns c = search asks
 
--- src/lib.rt:180:9
+-- src/lib.rt:188:9
 returns-2 : tie.Need-returns-2
 returns-2 c = search asks
 
--- src/lib.rt:182:8
+-- src/lib.rt:190:8
 child-requires : tie.Need-child-requires
 child-requires c κs = search needs
 
--- src/lib.rt:183:9
+-- src/lib.rt:191:9
 field-requires-2 : tie.Need-field-requires-2
 field-requires-2 c κs = search needs
 
--- src/lib.rt:183:9
+-- src/lib.rt:191:9
 returns-3 : tie.Need-returns-3
 returns-3 c = search asks
 
--- src/lib.rt:173:1
+-- src/lib.rt:181:1
 returns-4 : tie.Need-returns-4
 returns-4 c = search asks
 

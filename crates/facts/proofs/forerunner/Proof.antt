@@ -9,35 +9,35 @@ use Rattle.facts.proofs.child.Reads as child-reads
 use Rattle.facts.proofs.field.Reads as field-reads
 use Rattle.facts.proofs.list.Reads as list-reads
 
--- src/lib.rt:193:12
+-- src/lib.rt:201:12
 list-requires : tie.Need-list-requires
 list-requires c κs = search needs
 
--- src/lib.rt:194:13
+-- src/lib.rt:202:13
 field-requires : tie.Need-field-requires
 field-requires c κs = search needs
 
--- src/lib.rt:194:13
+-- src/lib.rt:202:13
 returns : tie.Need-returns
 returns c = search asks
 
--- src/lib.rt:196:9
+-- src/lib.rt:204:9
 returns-2 : tie.Need-returns-2
 returns-2 c = search asks
 
--- src/lib.rt:198:8
+-- src/lib.rt:206:8
 child-requires : tie.Need-child-requires
 child-requires c κs = search needs
 
--- src/lib.rt:199:9
+-- src/lib.rt:207:9
 field-requires-2 : tie.Need-field-requires-2
 field-requires-2 c κs = search needs
 
--- src/lib.rt:199:9
+-- src/lib.rt:207:9
 returns-3 : tie.Need-returns-3
 returns-3 c = search asks
 
--- src/lib.rt:189:1
+-- src/lib.rt:197:1
 returns-4 : tie.Need-returns-4
 returns-4 c = search asks
 

@@ -7,15 +7,15 @@ use Rattle.facts.proofs.list.Reads as reads
 use Rattle.facts.proofs.list.Lts as lts
 use Rattle.facts.proofs.has.Reads as has-reads
 
--- src/lib.rt:151:9
+-- src/lib.rt:159:9
 returns : tie.Need-returns
 returns c = search asks
 
--- src/lib.rt:153:5
+-- src/lib.rt:161:5
 has-requires : tie.Need-has-requires
 has-requires c κs = search needs
 
--- src/lib.rt:147:1
+-- src/lib.rt:155:1
 returns-2 : tie.Need-returns-2
 returns-2 c = search asks
 

@@ -5,11 +5,11 @@ use Rattle.facts.proofs.way.Tie as tie
 use Rattle.facts.proofs.way.Reads as reads
 use Rattle.facts.proofs.way.Lts as lts
 
--- src/lib.rt:244:9
+-- src/lib.rt:252:9
 returns : tie.Need-returns
 returns c = search stores
 
--- src/lib.rt:239:1
+-- src/lib.rt:247:1
 returns-2 : tie.Need-returns-2
 returns-2 c = search stores
 

@@ -5,11 +5,11 @@ use Rattle.facts.proofs.who.Tie as tie
 use Rattle.facts.proofs.who.Reads as reads
 use Rattle.facts.proofs.who.Lts as lts
 
--- src/lib.rt:234:9
+-- src/lib.rt:242:9
 returns : tie.Need-returns
 returns c = search stores
 
--- src/lib.rt:230:1
+-- src/lib.rt:238:1
 returns-2 : tie.Need-returns-2
 returns-2 c = search stores
 

@@ -5,11 +5,11 @@ use Rattle.rules.proofs.record.Record.is_record.Tie as tie
 use Rattle.rules.proofs.record.Record.is_record.Reads as reads
 use Rattle.rules.proofs.record.Record.is_record.Lts as lts
 
--- src/record.rt:46:5
+-- src/record.rt:47:5
 returns : tie.Need-returns
 returns c = simp (le-leb _ _ (c .if1 .taken))
 
--- src/record.rt:46:5
+-- src/record.rt:47:5
 returns-2 : tie.Need-returns-2
 returns-2 c = simp (lt-leb _ _ (c .if1 .left))
 
