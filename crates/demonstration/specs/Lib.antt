@@ -1,2 +1,3 @@
--- The demonstration's output.
+-- The demonstration's files and its output.
 pub mod Printed
+pub mod Files

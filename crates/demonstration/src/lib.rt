@@ -7,14 +7,19 @@ use ledger::write_end;
 use libc::STDOUT_FILENO;
 use rules::answers::Merged;
 use rules::codes::ACCEPTED;
+use text::text_of;
 ghost use mathlib.Core.Path.{_≡_};
-ghost use mathlib.Core.List.{_++_};
+ghost use mathlib.Core.List.{[], _∷_, _++_, map};
 ghost use Prim.Native.Nat.{_+_, _<_, _≤_};
-ghost use lib.ListN.{length};
+ghost use lib.ListN.{length, getD, take};
 ghost use Rattle.io.specs.Counts.{Counts};
 ghost use Rattle.bytes.specs.Put.{Put};
 ghost use Rattle.rules.specs.Calls.{fiveNumbers};
 ghost use Rattle.demonstration.specs.Printed.{tableRoom, ledgerRoom, printedRoom, numbersLength, Shows};
+ghost use Rattle.demonstration.specs.Files.{files, mostRead, textIn, printedOf, Filled, ReadTo};
+
+// So many files are read: old, first and second.
+const FILES: usize = 3;
 
 // So much of a file is read: one byte more than a table may have, so that a longer one is told as such.
 const MOST_READ: usize = 32769;
@@ -25,6 +30,13 @@ const LEDGER_ROOM: usize = 8192;
 
 // The line of five numbers, each of at most six digits and a byte behind it, the table and the ledger.
 const PRINTED_ROOM: usize = 40995;
+
+// Ties the constants to the definitions.
+pub fn sizes() -> [usize; 5]
+    ensures { λ r. ⌜ r ≡ files ∷ mostRead ∷ tableRoom ∷ ledgerRoom ∷ printedRoom ∷ [] ⌝ }
+{
+    [FILES, MOST_READ, TABLE_ROOM, LEDGER_ROOM, PRINTED_ROOM]
+}
 
 // ---- what is printed
 
@@ -84,17 +96,71 @@ fn show<'a>(
     )
 }
 
-fn print_merged<'a>(old: &'a [u8], first: &'a [u8], second: &'a [u8]) {
+// What the types of lent arrays say of their lengths. Neither does anything when it runs.
+fn shape(buffers: &[[u8; MOST_READ]; FILES])
+    ensures { λ r. ⌜ length (now (buffers .entry)) ≡ files ⌝ }
+{
+    let s = &buffers[..];
+}
+
+fn one_each(lengths: &[usize; FILES])
+    ensures { λ r. ⌜ length (now (lengths .entry)) ≡ files ⌝ }
+{
+    let s = &lengths[..];
+}
+
+fn first_bytes(buffer: &[u8], n: usize) -> &[u8]
+    requires { ⌜ Counts n (now buffer) ⌝ }
+    ensures { λ r. ⌜ now r ≡ take n (now (buffer .entry)) ⌝ }
+{
+    &buffer[..n]
+}
+
+// The text of a file: so many bytes of its buffer as were read.
+fn text_in<'a>(
+    buffers: &'a [[u8; MOST_READ]; FILES],
+    lengths: &[usize; FILES],
+    t: usize,
+) -> &'a [u8]
+    requires { ⌜ t < files ⌝ }
+    requires { ⌜ ReadTo (now buffers) (now lengths) files ⌝ }
+    ensures { λ r. ⌜ now r ≡ textIn (now (buffers .entry)) (now (lengths .entry)) t ⌝ }
+{
+    first_bytes(&buffers[t][..], lengths[t])
+}
+
+// Hands over what is printed of three texts, and nothing else: the part must be just that.
+fn hand_over(buffers: &[[u8; MOST_READ]; FILES], lengths: &[usize; FILES], part: &[u8])
+    requires { ⌜ now part ≡ printedOf (now buffers) (now lengths) ⌝ }
+{
+    io::write_all(STDOUT_FILENO, part);
+}
+
+fn print_merged(buffers: &[[u8; MOST_READ]; FILES], lengths: &[usize; FILES])
+    requires { ⌜ ReadTo (now buffers) (now lengths) files ⌝ }
+{
+    let old = text_in(buffers, lengths, 0);
+    let first = text_in(buffers, lengths, 1);
+    let second = text_in(buffers, lengths, 2);
     let mut table = [0u8; TABLE_ROOM];
     let mut ledger = [0u8; LEDGER_ROOM];
     let mut out = [0u8; PRINTED_ROOM];
     let n = show(old, first, second, &mut table, &mut ledger, &mut out);
-    io::write_all(STDOUT_FILENO, &out[..n]);
+    hand_over(buffers, lengths, &out[..n]);
+}
+
+// Tells the file that can't be read: the name must be its own.
+fn print_unread<'a>(names: &[&'a [u8]], t: usize, name: &[u8])
+    requires { ⌜ now name ≡ getD (map now (now names)) t [] ⌝ }
+{
+    io::write_all(STDOUT_FILENO, b"file\t");
+    io::write_all(STDOUT_FILENO, name);
+    io::write_all(STDOUT_FILENO, b"\n");
 }
 
 // ---- what is read
 
-// Whether a file could be read, and how many of its bytes are in the buffer.
+// Whether a file could be read, and how many of its bytes are in its buffer.
 struct Reading {
     failed: bool,
     length: usize,
@@ -126,7 +192,7 @@ fn read_open(fd: i32, buffer: &mut [u8]) -> Reading
 }
 
 // A folder can be opened, and not be read.
-fn read_file(name: &[u8], buffer: &mut [u8]) -> Reading
+fn read_file(name: &[u8], buffer: &mut [u8; MOST_READ]) -> Reading
     ensures { λ r. ⌜ Counts (r .length) (now (buffer .exit)) ⌝ }
 {
     let fd = os::open_read(name);
@@ -136,45 +202,62 @@ fn read_file(name: &[u8], buffer: &mut [u8]) -> Reading
             length: 0,
         };
     }
-    let reading = read_open(fd, buffer);
+    let reading = read_open(fd, &mut buffer[..]);
     libc::close(fd);
     reading
 }
 
-fn print_unread(name: &[u8]) {
-    io::write_all(STDOUT_FILENO, b"file\t");
-    io::write_all(STDOUT_FILENO, name);
-    io::write_all(STDOUT_FILENO, b"\n");
+// Reads file number `t`, whose name it must be, into its own buffer; the others stay.
+fn read_named<'a>(
+    names: &[&'a [u8]],
+    t: usize,
+    name: &[u8],
+    buffers: &mut [[u8; MOST_READ]; FILES],
+) -> Reading
+    requires { ⌜ (t < files) × (now name ≡ getD (map now (now names)) t []) ⌝ }
+    ensures { λ r. ⌜ Filled (now (buffers .entry)) t (r .length) (now (buffers .exit)) ⌝ }
+{
+    shape(buffers);
+    read_file(name, &mut buffers[t])
+}
+
+// Reads the files in order, and stops at the first that can't be read: its number is told, or how many there are.
+fn read_files<'a>(
+    names: &[&'a [u8]],
+    buffers: &mut [[u8; MOST_READ]; FILES],
+    lengths: &mut [usize; FILES],
+) -> usize
+    requires { ⌜ length (now names) ≡ files ⌝ }
+    ensures { λ r. ⌜ ReadTo (now (buffers .exit)) (now (lengths .exit)) r ⌝ }
+    ensures { λ r. ⌜ r ≤ files ⌝ }
+{
+    shape(buffers);
+    one_each(lengths);
+    let mut t: usize = 0;
+    while t < FILES {
+        let name = text_of(names, t);
+        let reading = read_named(names, t, name, buffers);
+        if reading.failed {
+            return t;
+        }
+        lengths[t] = reading.length;
+        t += 1;
+    }
+    t
 }
 
 // ---- the demonstration
 
 // Over three files of these names. All are read before a table is judged; the first that can't be is all that is told.
-pub fn demonstrate(old_name: &[u8], first_name: &[u8], second_name: &[u8]) {
-    let mut old = [0u8; MOST_READ];
-    let mut first = [0u8; MOST_READ];
-    let mut second = [0u8; MOST_READ];
-    let old_read = read_file(old_name, &mut old);
-    if old_read.failed {
-        print_unread(old_name);
+pub fn demonstrate<'a>(old: &'a [u8], first: &'a [u8], second: &'a [u8]) {
+    let names = [old, first, second];
+    let mut buffers = [[0u8; MOST_READ]; FILES];
+    let mut lengths = [0usize; FILES];
+    let unread = read_files(&names[..], &mut buffers, &mut lengths);
+    if unread < FILES {
+        let name = text_of(&names[..], unread);
+        print_unread(&names[..], unread, name);
         return;
     }
-    let first_read = read_file(first_name, &mut first);
-    if first_read.failed {
-        print_unread(first_name);
-        return;
-    }
-    let second_read = read_file(second_name, &mut second);
-    if second_read.failed {
-        print_unread(second_name);
-        return;
-    }
-    let old_length = old_read.length;
-    let first_length = first_read.length;
-    let second_length = second_read.length;
-    print_merged(
-        &old[..old_length],
-        &first[..first_length],
-        &second[..second_length],
-    );
+    print_merged(&buffers, &lengths);
 }
