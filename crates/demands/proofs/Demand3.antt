@@ -26,7 +26,7 @@ use Rattle.demands.proofs.Reading.{read-merged, table-text}
 use Rattle.demands.proofs.Swapping.{packed-traded}
 
 module _ (old : List ℕ) (branches : List (List ℕ)) (o : List Row) (bs : List (List Row)) (read : Tables old branches o bs) where
-  all-readable : (t : List Row) → t ∈ o ∷ bs → Readable t
+  pub all-readable : (t : List Row) → t ∈ o ∷ bs → Readable t
   all-readable t m = let w = table-text old branches o bs read t m in good-readable t (good (w .0) t (w .1))
 
   -- ---- the contents of an answer are contents of the tables, so a line may hold them

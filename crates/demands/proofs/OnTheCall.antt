@@ -4,8 +4,8 @@
 -- nothing.
 use mathlib.Core.Path.{_≡_, refl, sym, ap, _∙_}
 use mathlib.Core.Logic.{_↔_}
-use mathlib.Core.List.{List, [], _∷_}
-use Prim.Native.Nat.{ℕ}
+use mathlib.Core.List.{List, [], _∷_, map}
+use Prim.Native.Nat.{ℕ, _≤_}
 use lib.ListN.{length, take, drop}
 use lib.Seq.{take-append-seam}
 use Rattle.rules.specs.Codes.{accepted}
@@ -13,11 +13,14 @@ use Rattle.rules.specs.Marks.{TOP}
 use Rattle.rules.specs.Line.{Row}
 use Rattle.rules.specs.Table.{Verdict, readable, unreadable, verdict}
 use Rattle.rules.specs.Tree.{Tree, rows, treeOf}
+use Rattle.rules.specs.Facts.{Facts, factsOf}
 use Rattle.rules.specs.Written.{writtenTree, over}
 use Rattle.rules.specs.Ledger.{Entry, entriesOf, ledger as ledgerOf}
 use Rattle.rules.specs.Calls.{Outcome, done, mergeOutcome, answerOf, told, tableAfter, ledgerAfter}
 use Rattle.rules.specs.Promises.{Merges}
 use Rattle.rules.specs.Demands.{Within, Tables, Answered, tradedOutcome}
+use Rattle.rules.specs.Conditions.{BrokenList, ContentClash, LostEdit, Names, NeighbourClash, Nowhere, ParentClash, RecordOf, Refusal}
+use Rattle.rules.specs.Conditions.{TopOrRecordOf}
 use Rattle.rules.specs.declared.answers.Merged.{Merged}
 use Rattle.rules.proofs.Settled.{merge-settled}
 use Rattle.demands.proofs.Reading.{old-unread, branch-unread, done-read}
@@ -26,6 +29,8 @@ use Rattle.demands.proofs.Swapping.{traded-answer, traded-table}
 use Rattle.demands.proofs.Demand1.{merge-refused}
 use Rattle.demands.proofs.Demand2.{merged-back}
 use Rattle.demands.proofs.Demand3.{done-answered, answered-done, one-tree, swapped}
+use Rattle.demands.proofs.Clashes.{broken-named, content-named, lost-named, neighbour-named, parent-named, place-named}
+use Rattle.demands.proofs.Clashes.{record-named, refusal-exactly}
 
 -- what an accepted call has written: this tree, with these entries in the ledger
 pub record Wrote (table ledger : List ℕ) (answer : Merged) (table′ ledger′ : List ℕ) (f : Tree) (es : List Entry) : Type 0 where
@@ -84,6 +89,50 @@ module _ (old first second table ledger : List ℕ) (answer : Merged) (table′ 
       call .answered
       ∙ ap answerOf (branch-unread old o p (first ∷ []) (f ∷ []) (ap (λ (v : Verdict). v ∷ []) q) second code line u []
       (length table) (length ledger))
+
+  -- "A clash names its kind and one record, or the top": of readable tables codes 21 to 25 are told exactly as Conditions says, each by the
+  -- condition that it names. O and B are the facts of the tables
+
+  module _ (o : List Row) (bs : List (List Row)) (read : Tables old branches o bs) where
+    abbrev O : Facts
+    O = factsOf o
+
+    abbrev B : List Facts
+    B = map factsOf bs
+
+    -- 21: two edits give this record different contents
+    pub demand1-21 : Names answer 21 (ContentClash O B) (Unit {0})
+    demand1-21 = content-named old branches o bs read (length table) (length ledger) answer (call .answered)
+
+    -- 22: two edits give this record different parents
+    pub demand1-22 : Names answer 22 (ParentClash O B) (Nowhere (ContentClash O B))
+    demand1-22 = parent-named old branches o bs read (length table) (length ledger) answer (call .answered)
+
+    -- 23: two edits disagree on follower or forerunner under this parent
+    pub demand1-23 : Names answer 23 (NeighbourClash O B) (Nowhere (ContentClash O B) × Nowhere (ParentClash O B))
+    demand1-23 = neighbour-named old branches o bs read (length table) (length ledger) answer (call .answered)
+
+    -- 24: this parent is reached, and its list stops before END
+    pub demand1-24 : Names answer 24 (BrokenList O B)
+        (Nowhere (ContentClash O B) × Nowhere (ParentClash O B) × Nowhere (NeighbourClash O B))
+    demand1-24 = broken-named old branches o bs read (length table) (length ledger) answer (call .answered)
+
+    -- 25: an edit of this record's content, or of a position under this parent, is not among the facts of the merged tree
+    pub demand1-25 : Names answer 25 (LostEdit O B)
+        (Nowhere (ContentClash O B) × Nowhere (ParentClash O B) × Nowhere (NeighbourClash O B) × Nowhere (BrokenList O B))
+    demand1-25 = lost-named old branches o bs read (length table) (length ledger) answer (call .answered)
+
+    -- all five at once: the answer is this code with this place and nothing else, exactly if the merge is refused so
+    pub demand1-clash : (code place : ℕ) → 21 ≤ code → code ≤ 25 → (answer ≡ told code 0 place 0 0) ↔ Refusal O B code place
+    demand1-clash = refusal-exactly old branches o bs read (length table) (length ledger) answer (call .answered)
+
+    -- 21 and 22 name a record of a desk's table
+    pub demand1-record : 21 ≤ answer .code → answer .code ≤ 22 → RecordOf bs (answer .place)
+    demand1-record = record-named old branches o bs read (length table) (length ledger) answer (call .answered)
+
+    -- and all five a record of one of the tables, or the top
+    pub demand1-place : 21 ≤ answer .code → answer .code ≤ 25 → TopOrRecordOf (o ∷ bs) (answer .place)
+    demand1-place = place-named old branches o bs read (length table) (length ledger) answer (call .answered)
 
   -- ---- demand 2: what is written is document 01's, and reads back as the same tree
 

@@ -1,7 +1,7 @@
 -- Document 01 as definitions that compute: what a reader of Brooksaddle must believe. Its sections stand here:
 --     The table as text             Limits, Text, Line, Table, Tree, Written
 --     Calls and what comes back     Codes, Calls, Promises
---     Facts and edits               Marks, Facts, Merge
+--     Facts and edits               Marks, Facts, Merge; the conditions of 21 to 25 once more, in words of facts: Conditions
 --     The ledger                    Ledger
 --     Demonstration                 `shown` in Calls; its example in proofs/Examples
 --     Lettered trees                proofs/Lettered
@@ -24,3 +24,4 @@ pub mod Ledger
 pub mod Calls
 pub mod Promises
 pub mod Demands
+pub mod Conditions

@@ -1,5 +1,5 @@
 -- Facts, trees and the merge. Lists and facts of any kind, then disagreement, trees and the walk; then demand 3 over facts; then
--- tables: each is a tree with exactly its facts, and demand 3 holds of them.
+-- tables: each is a tree with exactly its facts, their merge is refused exactly as Conditions says, and demand 3 holds of them.
 pub mod Lists
 pub mod Sets
 pub mod Marks
@@ -18,4 +18,7 @@ pub mod RowsBack
 pub mod SameRows
 pub mod Deepest
 pub mod LineByLine
+pub mod Clashing
+pub mod Meeting
+pub mod Refusing
 pub mod Demand3

@@ -152,7 +152,7 @@ module _ (t : List Row) (d : Distinct t) where
   no-child r m h k = not-record (child-record r m k) h refl
 
   -- the row of a record to which a fact gives a parent
-  given-row : (a : PositionFact) → InTable t a → (g : ParentGiven) → Given g a
+  pub given-row : (a : PositionFact) → InTable t a → (g : ParentGiven) → Given g a
       → (x : Row) × (x ∈ t) × (x .number ≡ g .number) × (x .parent ≡ g .parent)
   given-row a m g w = let k = child-row t (a .parent) (g .number) (go (w .2)) in (k .0, k .1, k .2, k .3 ∙ sym (w .0))
     where

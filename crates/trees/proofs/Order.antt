@@ -204,7 +204,7 @@ module _ (old : Facts) (branches others : List Facts) (h : Sub branches others) 
 
 -- ---- without codes 21 to 23 the walk has no choice
 
-kept-contents-coherent : (old : Facts) (branches : List Facts) → Sound old → contentClashes old branches ≡ []
+pub kept-contents-coherent : (old : Facts) (branches : List Facts) → Sound old → contentClashes old branches ≡ []
     → Coherent contentsDisagree (keptContents old branches)
 unfolding keptContents contentEdits contentClashes
 kept-contents-coherent old branches sound no-content =
