@@ -1,10 +1,10 @@
 -- Codes 21 to 25 told of texts whose tables are readable: exactly the refusals that Conditions speaks of. o is old's table, bs are the
--- branches', O and B their facts, a and b the room of the two buffers, n is a place, f a tree, es are the ledger's entries. Assumes
--- nothing.
+-- branches', O and B their facts, t is one of the tables, a and b are the room of the two buffers, n is a place, f a tree, es are the
+-- ledger's entries. Assumes nothing.
 use mathlib.Core.Path.{_≡_, refl, sym, ap, _∙_, subst}
 use mathlib.Core.Logic.{_↔_}
 use mathlib.Core.Bool.{Bool, true, false}
-use mathlib.Core.List.{List, _∷_, map}
+use mathlib.Core.List.{List, [], _∷_, map, List·Memᴰ·head as here}
 use Prim.Native.Nat.{ℕ, _≤_}
 use native.Mathlib.Omega.{arith}
 use lib.Dec.{ltb}
@@ -12,6 +12,7 @@ use lib.ListN.{length}
 use Rattle.rules.specs.Codes.{contentClash, parentClash, neighbourClash, brokenList, lostEdit}
 use Rattle.rules.specs.Lists.{_∈_}
 use Rattle.rules.specs.Line.{Row}
+use Rattle.rules.specs.Table.{readable, verdict}
 use Rattle.rules.specs.Tree.{Tree}
 use Rattle.rules.specs.Facts.{Facts, factsOf}
 use Rattle.rules.specs.Merge.{Result, refused, merged, merge}
@@ -23,8 +24,8 @@ use Rattle.rules.specs.Conditions.{BrokenList, ContentClash, Least, LostEdit, N
 use Rattle.rules.specs.Conditions.{Somewhere, TopOrRecordOf}
 use Rattle.rules.specs.declared.answers.Merged.{Merged}
 use Rattle.trees.proofs.Refusing.{No21, No22, No23, No24, broken-given, broken-told, content-given, content-told, lost-given, lost-told}
-use Rattle.trees.proofs.Refusing.{neighbour-given, neighbour-told, parent-given, parent-told, refusal-place, refusal-record}
-use Rattle.trees.proofs.Refusing.{refused-exactly}
+use Rattle.trees.proofs.Refusing.{neighbour-given, neighbour-told, parent-given, parent-told, refused-exactly}
+use Rattle.trees.proofs.Naming.{refusal-place, refusal-record}
 use Rattle.demands.proofs.Packing.{ending}
 use Rattle.demands.proofs.Reading.{read-merged}
 use Rattle.demands.proofs.Demand3.{all-readable}
@@ -128,5 +129,12 @@ module _ (old : List ℕ) (branches : List (List ℕ)) (o : List Row) (bs : List
   record-named low high =
       refusal-record o bs ok (answer .code) (answer .place) (answer-refusal (answer .code) low (omega arith) refl) high
 
-  pub place-named : contentClash ≤ answer .code → answer .code ≤ lostEdit → TopOrRecordOf (o ∷ bs) (answer .place)
-  place-named low high = refusal-place o bs ok (answer .code) (answer .place) (answer-refusal (answer .code) low high refl)
+  pub place-named : (t : List Row) → t ∈ bs → contentClash ≤ answer .code → answer .code ≤ lostEdit → TopOrRecordOf bs (answer .place)
+  place-named t m low high =
+      refusal-place o bs ok t m (answer .code) (answer .place) (answer-refusal (answer .code) low high refl)
+
+-- where there is a text, there is its table
+pub one-read : (text : List ℕ) (texts : List (List ℕ)) (ts : List (List Row)) → map verdict (text ∷ texts) ≡ map readable ts
+    → (t : List Row) × (t ∈ ts)
+one-read text texts [] e = let z : _≡_ {A = ℕ} 0 1 = cc in absurd (omega arith)
+one-read text texts (t ∷ ts) e = (t, here refl)

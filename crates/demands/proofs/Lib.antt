@@ -6,6 +6,7 @@ pub mod Swapping
 pub mod Demand1
 pub mod Demand2
 pub mod Demand3
+pub mod Faults
 pub mod Clashes
 pub mod OnTheCall
 pub mod TidyTwice

@@ -2,7 +2,7 @@
 -- ensure `Merges` of the texts handed in, the five numbers answered and the two lent buffers; what follows holds of every such call. `old`,
 -- `first` and `second` are the texts, `table` and `ledger` the buffers before the call; a name with a prime is a buffer after it. Assumes
 -- nothing.
-use mathlib.Core.Path.{_≡_, refl, sym, ap, _∙_}
+use mathlib.Core.Path.{_≡_, refl, sym, ap, _∙_, subst}
 use mathlib.Core.Logic.{_↔_}
 use mathlib.Core.List.{List, [], _∷_, map}
 use Prim.Native.Nat.{ℕ, _≤_}
@@ -29,7 +29,8 @@ use Rattle.demands.proofs.Swapping.{traded-answer, traded-table}
 use Rattle.demands.proofs.Demand1.{merge-refused}
 use Rattle.demands.proofs.Demand2.{merged-back}
 use Rattle.demands.proofs.Demand3.{done-answered, answered-done, one-tree, swapped}
-use Rattle.demands.proofs.Clashes.{broken-named, content-named, lost-named, neighbour-named, parent-named, place-named}
+use Rattle.demands.proofs.Faults.{late-read}
+use Rattle.demands.proofs.Clashes.{broken-named, content-named, lost-named, neighbour-named, one-read, parent-named, place-named}
 use Rattle.demands.proofs.Clashes.{record-named, refusal-exactly}
 
 -- what an accepted call has written: this tree, with these entries in the ledger
@@ -90,8 +91,11 @@ module _ (old first second table ledger : List ℕ) (answer : Merged) (table′ 
       ∙ ap answerOf (branch-unread old o p (first ∷ []) (f ∷ []) (ap (λ (v : Verdict). v ∷ []) q) second code line u []
       (length table) (length ledger))
 
-  -- "A clash names its kind and one record, or the top": of readable tables codes 21 to 25 are told exactly as Conditions says, each by the
-  -- condition that it names. O and B are the facts of the tables
+  -- "A clash names its kind and one record, or the top": codes 21 to 25 are told of readable tables, exactly if the condition that
+  -- specs/Conditions has for the code holds and none before it does, with the least place where it holds. O and B are the tables' facts.
+
+  pub demand1-read : 21 ≤ answer .code → (o : List Row) × (bs : List (List Row)) × Tables old branches o bs
+  demand1-read h = late-read old branches (length table) (length ledger) (subst (λ (n : ℕ). 21 ≤ n) code-is h)
 
   module _ (o : List Row) (bs : List (List Row)) (read : Tables old branches o bs) where
     abbrev O : Facts
@@ -130,9 +134,11 @@ module _ (old first second table ledger : List ℕ) (answer : Merged) (table′ 
     pub demand1-record : 21 ≤ answer .code → answer .code ≤ 22 → RecordOf bs (answer .place)
     demand1-record = record-named old branches o bs read (length table) (length ledger) answer (call .answered)
 
-    -- and all five a record of one of the tables, or the top
-    pub demand1-place : 21 ≤ answer .code → answer .code ≤ 25 → TopOrRecordOf (o ∷ bs) (answer .place)
-    demand1-place = place-named old branches o bs read (length table) (length ledger) answer (call .answered)
+    -- and 23 to 25 such a record, or the top
+    pub demand1-place : 21 ≤ answer .code → answer .code ≤ 25 → TopOrRecordOf bs (answer .place)
+    demand1-place =
+        let t = one-read first (second ∷ []) bs (read .branches-read) in
+        place-named old branches o bs read (length table) (length ledger) answer (call .answered) (t .0) (t .1)
 
   -- ---- demand 2: what is written is document 01's, and reads back as the same tree
 

@@ -9,8 +9,8 @@ use lib.Dec.{T, T-not, eqb, eqb→eq, eqb-refl}
 use mir.Facts.{and-yes, yes-and, or-yes, yes-eqb, no-eqb, eqb-no}
 use Rattle.rules.specs.Lists.{_∈_, any, flat}
 use Rattle.rules.specs.Facts.{ContentFact, Facts, ParentGiven, PositionFact, contentsDisagree, contentsOf, disagreeing, edits, kept}
-use Rattle.rules.specs.Facts.{neighboursDisagree}
-use Rattle.rules.specs.Facts.{parentGiven, parentsDiffer, parentsDisagree, parentsGiven, positionsDisagree, positionsOf, sameContent}
+use Rattle.rules.specs.Facts.{neighboursDisagree, parentGiven, parentsDiffer, parentsDisagree, parentsGiven, positionsDisagree}
+use Rattle.rules.specs.Facts.{positionsOf, sameContent}
 use Rattle.rules.specs.Merge.{contentClashes, contentEdits, keptContents, keptPositions, neighbourClashes, parentClashes, positionEdits}
 use Rattle.rules.specs.Conditions.{ContentClash, ContentEdit, ContentsDisagree, DifferentContents, DifferentFollowers}
 use Rattle.rules.specs.Conditions.{DifferentForerunners, DifferentNeighbours, DifferentParents, Edit, GivesParent, Kept, KeptContent}
@@ -97,7 +97,7 @@ positions-differ a b t = go (or-yes (parentsDisagree a b) (neighboursDisagree a 
         inl (v .0 .number, parents-differ (v .0) (w .0) a b (v .1) (w .1) (w .2))
     go (inr u) = inr (a .parent, neighbours-differ a b u)
 
-differ-positions : (a b : PositionFact) → PositionsDisagree a b → T (positionsDisagree a b)
+pub differ-positions : (a b : PositionFact) → PositionsDisagree a b → T (positionsDisagree a b)
 differ-positions a b (inl (n, w)) =
     or-left (parentsDisagree a b) (neighboursDisagree a b)
     (any-in (λ (g : ParentGiven). any (parentsDiffer g) (parentsGiven b)) (given-in n a (w .0 .0) (w .0 .1))

@@ -21,4 +21,5 @@ pub mod LineByLine
 pub mod Clashing
 pub mod Meeting
 pub mod Refusing
+pub mod Naming
 pub mod Demand3

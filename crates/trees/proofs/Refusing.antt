@@ -1,30 +1,26 @@
--- The merge of readable tables is refused with a code and a place exactly if Conditions says so, and the place is the top or a record of
--- the tables. `old` and `branches` are tables, O and B their facts, t is a table, a a fact, n a record, r a parent, g a tree. Assumes
--- nothing.
+-- The merge of readable tables is refused with a code and a place exactly if Conditions says so. `old` and `branches` are tables, O and B
+-- their facts, t is a table, a a fact, n a record or a parent, g a tree. Assumes nothing.
 use mathlib.Core.Path.{_≡_, refl, sym, ap, _∙_, subst}
 use mathlib.Core.Logic.{_⊎_, inl, inr, _↔_}
 use mathlib.Core.List.{List, [], _∷_, map, List·Memᴰ·head as here, List·Memᴰ·tail as there, Memᴰ·cast, Memᴰ·of-map, List·Memᴰ·not-nil}
-use Prim.Native.Nat.{ℕ, _≤_}
+use Prim.Native.Nat.{ℕ}
 use native.Mathlib.Omega.{arith}
 use lib.Dec.{T}
 use Rattle.rules.specs.Codes.{brokenList, contentClash, lostEdit, neighbourClash, parentClash}
 use Rattle.rules.specs.Lists.{_∈_}
-use Rattle.rules.specs.Marks.{END, START, TOP, isRecord}
+use Rattle.rules.specs.Marks.{END, START, isRecord}
 use Rattle.rules.specs.Line.{Row}
-use Rattle.rules.specs.Table.{numbers}
 use Rattle.rules.specs.Tree.{Tree, childNumbers}
-use Rattle.rules.specs.Facts.{ContentFact, Facts, PositionFact, contentsOf, factsOf, listFacts, parentGiven}
-use Rattle.rules.specs.Facts.{position, positionsDisagree, positionsOf}
+use Rattle.rules.specs.Facts.{ContentFact, Facts, PositionFact, contentsOf, factsOf, positionsDisagree, positionsOf}
 use Rattle.rules.specs.Merge.{Result, brokenLists, contentClashes, keptPositions, least, lostEdits, merge, merged, mergedTree}
 use Rattle.rules.specs.Merge.{neighbourClashes, parentClashes, refuse, refused}
 use Rattle.rules.specs.Demands.{Readable}
-use Rattle.rules.specs.Conditions.{BrokenList, ContentClash, ContentEdit, Edit, KeptPosition, Least, LostEdit, Met}
-use Rattle.rules.specs.Conditions.{NeighbourClash, Nowhere, ParentClash, PositionEdit, RecordOf, Refusal, Somewhere, TopOrRecordOf}
-use Rattle.rules.specs.Conditions.{begin, on, under, content-clash, parent-clash, neighbour-clash, broken-list, lost-edit}
+use Rattle.rules.specs.Conditions.{BrokenList, ContentClash, ContentEdit, Edit, KeptPosition, Least, LostEdit, NeighbourClash, Nowhere}
+use Rattle.rules.specs.Conditions.{ParentClash, RecordOf, Refusal, Somewhere, content-clash, parent-clash, neighbour-clash, broken-list}
+use Rattle.rules.specs.Conditions.{lost-edit}
 use Rattle.trees.proofs.Kept.{Coherent}
 use Rattle.trees.proofs.Disagreeing.{recordOf}
-use Rattle.trees.proofs.OneTable.{child-number, child-record, content-row, given-row, in-table, list-after, list-of, list-parent}
-use Rattle.trees.proofs.OneTable.{number-record, row-number}
+use Rattle.trees.proofs.OneTable.{child-record, content-row, in-table, list-after, number-record, row-number}
 use Rattle.trees.proofs.Answering.{Sound, refuse-none}
 use Rattle.trees.proofs.Accepting.{kept-positions-coherent}
 use Rattle.trees.proofs.Order.{kept-contents-coherent, least-in, least-le}
@@ -187,7 +183,7 @@ module _ (old : List Row) (branches : List (List Row)) (ok : (t : List Row) → 
 
   -- a fact of the tables is a fact of a table
   module _ {A : Type 0} (part : Facts → List A) where
-    edit-table : (a : A) → Edit part O B a → (t : List Row) × (t ∈ branches) × (a ∈ part (factsOf t))
+    pub edit-table : (a : A) → Edit part O B a → (t : List Row) × (t ∈ branches) × (a ∈ part (factsOf t))
     edit-table a w =
         let v = Memᴰ·of-map factsOf branches (w .0 .1) in
         (v .0, v .1, subst (λ (l : Facts). a ∈ part l) (sym (v .2)) (w .0 .2))
@@ -196,8 +192,8 @@ module _ (old : List Row) (branches : List (List Row)) (ok : (t : List Row) → 
   kept-table a (inl w) = let v = edit-table positionsOf a w in (v .0, there (v .1), v .2)
   kept-table a (inr w) = (old, here refl, w .0)
 
-  -- a kept fact goes to a record of a table, or to END
-  kept-after : (a : PositionFact) → KeptPosition O B a → (a .after ≡ END) ⊎ (T (isRecord (a .after)) × RecordOf (old ∷ branches) (a .after))
+  -- a kept fact goes to a record, or to END
+  kept-after : (a : PositionFact) → KeptPosition O B a → (a .after ≡ END) ⊎ T (isRecord (a .after))
   kept-after a w = go (list-after (a .parent) START (childNumbers (a .parent) t) a (in-table t a (v .2)))
     where
       v : (t : List Row) × (t ∈ old ∷ branches) × (a ∈ factsOf t .positions)
@@ -206,14 +202,9 @@ module _ (old : List Row) (branches : List (List Row)) (ok : (t : List Row) → 
       t : List Row
       t = v .0
 
-      go : (a .after ≡ END) ⊎ (a .after ∈ childNumbers (a .parent) t)
-          → (a .after ≡ END) ⊎ (T (isRecord (a .after)) × RecordOf (old ∷ branches) (a .after))
+      go : (a .after ≡ END) ⊎ (a .after ∈ childNumbers (a .parent) t) → (a .after ≡ END) ⊎ T (isRecord (a .after))
       go (inl e) = inl e
-      go (inr m) =
-          inr (
-            child-record t (ok t (v .1) .distinct) (a .parent) (a .after) m,
-            (t, v .1, child-number t (a .parent) (a .after) m),
-          )
+      go (inr m) = inr (child-record t (ok t (v .1) .distinct) (a .parent) (a .after) m)
 
   -- ---- the places of 24 and 25
 
@@ -223,12 +214,12 @@ module _ (old : List Row) (branches : List (List Row)) (ok : (t : List Row) → 
       (nowhere-none (NeighbourClash O B) (neighbourClashes O B) (neighbour-places O B) n23)
 
   ends : (a : PositionFact) → a ∈ keptPositions O B → (a .after ≡ END) ⊎ T (isRecord (a .after))
-  ends a m = elim (kept-after a (kept-position-out O B a m)) [ inl e ↦ inl e | inr w ↦ inr (w .0) ]
+  ends a m = kept-after a (kept-position-out O B a m)
 
   broken : No22 O B → No23 O B → Places (BrokenList O B) (brokenLists O B)
   broken n22 n23 = broken-places O B (coherent n22 n23) ends
 
-  content-record : (a : ContentFact) → ContentEdit O B a → RecordOf branches (a .number)
+  pub content-record : (a : ContentFact) → ContentEdit O B a → RecordOf branches (a .number)
   content-record a w =
       let v = edit-table contentsOf a w in
       let x = content-row (v .0) a (v .2) in
@@ -276,65 +267,3 @@ module _ (old : List Row) (branches : List (List Row)) (ok : (t : List Row) → 
   pub lost-given : Somewhere (LostEdit O B) × (No21 O B × No22 O B × No23 O B × No24 O B) → Somewhere (Refusal O B lostEdit)
   lost-given (c, (n21, n22, n23, n24)) =
       let l = somewhere-least (LostEdit O B) (lostEdits O B) (lost n21 n22 n23) c in (l .0, lost-edit n21 n22 n23 n24 (l .1))
-
-  -- ---- the place: a record of a branch, or the top
-
-  edit-parent : (a : PositionFact) → PositionEdit O B a → TopOrRecordOf branches (a .parent)
-  edit-parent a w = go (Memᴰ·cast (list-parent (u .0) START (childNumbers (u .0) (v .0)) a (u .2)) (u .1))
-    where
-      v : (t : List Row) × (t ∈ branches) × (a ∈ factsOf t .positions)
-      v = edit-table positionsOf a w
-
-      u : (r : ℕ) × (r ∈ TOP ∷ numbers (v .0)) × (a ∈ listFacts r START (childNumbers r (v .0)))
-      u = list-of (v .0) a (v .2)
-
-      go : a .parent ∈ TOP ∷ numbers (v .0) → TopOrRecordOf branches (a .parent)
-      go (here e) = inl e
-      go (there m) = inr (v .0, v .1, m)
-
-  pub content-clash-place : (n : ℕ) → ContentClash O B n → RecordOf branches n
-  content-clash-place n (a, b, i, j, w) = subst (RecordOf branches) (w .0) (content-record a i)
-
-  pub parent-clash-place : (n : ℕ) → ParentClash O B n → RecordOf branches n
-  parent-clash-place n (a, b, i, j, w) =
-      let v = edit-table positionsOf a i in
-      let x = given-row (v .0) (ok (v .0) (there (v .1)) .distinct) a (in-table (v .0) a (v .2)) (parentGiven n (a .parent))
-      (refl, w .0 .0, w .0 .1) in
-      (v .0, v .1, Memᴰ·cast (sym (x .2)) (row-number (v .0) (x .0) (x .1)))
-
-  pub neighbour-clash-place : (r : ℕ) → NeighbourClash O B r → TopOrRecordOf branches r
-  neighbour-clash-place r (a, b, i, j, w) = subst (TopOrRecordOf branches) (w .0) (edit-parent a i)
-
-  reached-parent : {r p : ℕ} → Met O B r p → TopOrRecordOf (old ∷ branches) r
-  reached-parent begin = inl refl
-  reached-parent (on m k i) = reached-parent m
-  reached-parent (under {r} {p} {s} m k i) = go (kept-after (position r p s) k)
-    where
-      go : (s ≡ END) ⊎ (T (isRecord s) × RecordOf (old ∷ branches) s) → TopOrRecordOf (old ∷ branches) s
-      go (inl e) = absurd (subst (λ (n : ℕ). T (isRecord n)) e i)
-      go (inr w) = inr (w .1)
-
-  pub broken-list-place : (r : ℕ) → BrokenList O B r → TopOrRecordOf (old ∷ branches) r
-  broken-list-place r (p, m, stops) = reached-parent m
-
-  pub lost-edit-place : (n : ℕ) → LostEdit O B n → TopOrRecordOf branches n
-  lost-edit-place n (inl (a, i, e, h)) = inr (subst (RecordOf branches) e (content-record a i))
-  lost-edit-place n (inr (a, i, e, h)) = subst (TopOrRecordOf branches) e (edit-parent a i)
-
-  pub refusal-record : (code n : ℕ) → Refusal O B code n → code ≤ parentClash → RecordOf branches n
-  refusal-record _ n (content-clash l) h = content-clash-place n (l .holds)
-  refusal-record _ n (parent-clash n21 l) h = parent-clash-place n (l .holds)
-  refusal-record _ n (neighbour-clash n21 n22 l) h = absurd (omega (arith, h))
-  refusal-record _ n (broken-list n21 n22 n23 l) h = absurd (omega (arith, h))
-  refusal-record _ n (lost-edit n21 n22 n23 n24 l) h = absurd (omega (arith, h))
-
-  known : (n : ℕ) → TopOrRecordOf branches n → TopOrRecordOf (old ∷ branches) n
-  known n (inl e) = inl e
-  known n (inr (t, i, m)) = inr (t, there i, m)
-
-  pub refusal-place : (code n : ℕ) → Refusal O B code n → TopOrRecordOf (old ∷ branches) n
-  refusal-place _ n (content-clash l) = known n (inr (content-clash-place n (l .holds)))
-  refusal-place _ n (parent-clash n21 l) = known n (inr (parent-clash-place n (l .holds)))
-  refusal-place _ n (neighbour-clash n21 n22 l) = known n (neighbour-clash-place n (l .holds))
-  refusal-place _ n (broken-list n21 n22 n23 l) = broken-list-place n (l .holds)
-  refusal-place _ n (lost-edit n21 n22 n23 n24 l) = known n (lost-edit-place n (l .holds))
