@@ -1,7 +1,8 @@
 -- The three demands on the call of merge: here a visitor begins. `merge` and its export (crates/brooksaddle/src/lib.rt) ask nothing, and
 -- ensure `Merges` of the texts handed in, the five numbers answered and the two lent buffers; what follows holds of every such call. `old`,
--- `first` and `second` are the texts, `table` and `ledger` the buffers before the call; a name with a prime is a buffer after it. Assumes
--- nothing.
+-- `first` and `second` are the texts, `table` and `ledger` the buffers before the call; a name with a prime is a buffer after it. What
+-- codes 21 to 25 mean is said here in words of facts and edits (rules/specs/Conditions), not by the definitions that compute the merge.
+-- Assumes nothing.
 use mathlib.Core.Path.{_≡_, refl, sym, ap, _∙_, subst}
 use mathlib.Core.Logic.{_↔_}
 use mathlib.Core.List.{List, [], _∷_, map}

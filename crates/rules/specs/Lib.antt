@@ -1,7 +1,7 @@
 -- Document 01 as definitions that compute: what a reader of Brooksaddle must believe. Its sections stand here:
 --     The table as text             Limits, Text, Line, Table, Tree, Written
 --     Calls and what comes back     Codes, Calls, Promises
---     Facts and edits               Marks, Facts, Merge; the conditions of 21 to 25 once more, in words of facts: Conditions
+--     Facts and edits               Marks, Facts, Merge; its conditions once more, as types: Conditions
 --     The ledger                    Ledger
 --     Demonstration                 `shown` in Calls; its example in proofs/Examples
 --     Lettered trees                proofs/Lettered
