@@ -13,7 +13,6 @@ use Rattle.rules.specs.Marks.{TOP, START, isRecord}
 use Rattle.rules.specs.Line.{Row}
 use Rattle.rules.specs.Table.{numbers}
 use Rattle.rules.specs.Facts.{PositionFact, ContentFact, Facts, positionsOf, contentsOf, position}
-use Rattle.rules.specs.Calls.{told}
 use Rattle.rules.specs.declared.answers.Merged.{Merged}
 
 -- ---- where a condition holds
@@ -156,8 +155,9 @@ TopOrRecordOf tables n = (n ≡ TOP) ⊎ RecordOf tables n
 -- ---- what the answer of merge says
 
 -- The code is told exactly if its condition holds somewhere and none before it does (`Before`). Then the answer names the least place where
--- it holds, and no table and no lengths.
+-- it holds, no table, and no lengths.
 pub record Names (answer : Merged) (code : ℕ) (Condition : ℕ → Type 0) (Before : Type 0) : Type 0 where
   pub exactly : (answer .code ≡ code) ↔ (Somewhere Condition × Before)
   pub place-is : answer .code ≡ code → Least Condition (answer .place)
-  pub answer-is : answer .code ≡ code → answer ≡ told code 0 (answer .place) 0 0
+  pub answer-is : answer .code ≡ code
+      → answer ≡ record { code = code; table = 0; place = answer .place; «table_length» = 0; «ledger_length» = 0 }
