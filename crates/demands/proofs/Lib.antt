@@ -6,5 +6,10 @@ pub mod Swapping
 pub mod Demand1
 pub mod Demand2
 pub mod Demand3
+pub mod Unread
+pub mod Room
+pub mod LackOfRoom
+pub mod Bounds
+pub mod Lengths
 pub mod OnTheCall
 pub mod TidyTwice

@@ -5,8 +5,10 @@ pub mod Decimals
 pub mod Following
 pub mod Faults
 pub mod Accepting
+pub mod Refusing
 pub mod ReadBack
 pub mod Canonical
 pub mod TreesBack
 pub mod Tidying
 pub mod Parts
+pub mod Entries

@@ -24,3 +24,4 @@ pub mod Ledger
 pub mod Calls
 pub mod Promises
 pub mod Demands
+pub mod Room
