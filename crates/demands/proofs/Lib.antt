@@ -12,4 +12,5 @@ pub mod LackOfRoom
 pub mod Bounds
 pub mod Lengths
 pub mod OnTheCall
+pub mod OnCheck
 pub mod TidyTwice

@@ -2,12 +2,14 @@
 -- trees, tidy, and the parts told for contents.
 pub mod Splitting
 pub mod Decimals
+pub mod Contents
 pub mod Following
 pub mod Faults
 pub mod Accepting
 pub mod Refusing
 pub mod ReadBack
 pub mod Canonical
+pub mod ReadableText
 pub mod TreesBack
 pub mod Tidying
 pub mod Parts

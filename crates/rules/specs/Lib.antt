@@ -25,3 +25,4 @@ pub mod Calls
 pub mod Promises
 pub mod Demands
 pub mod Room
+pub mod ReadableText
