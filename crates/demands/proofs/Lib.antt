@@ -13,4 +13,5 @@ pub mod Bounds
 pub mod Lengths
 pub mod OnTheCall
 pub mod OnCheck
+pub mod OnTidy
 pub mod TidyTwice
