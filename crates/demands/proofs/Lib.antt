@@ -14,4 +14,5 @@ pub mod Lengths
 pub mod OnTheCall
 pub mod OnCheck
 pub mod OnTidy
+pub mod Printed
 pub mod TidyTwice

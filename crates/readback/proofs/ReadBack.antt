@@ -39,7 +39,7 @@ every-allowed (x ∷ s) t =
     let a = and-yes (digit x) (every digit s) t in
     yes-and (allowed x) (every allowed s) (digit-allowed x (a .0)) (every-allowed s (a .1))
 
-digits-allowed : (n : ℕ) → T (every allowed (digits n))
+pub digits-allowed : (n : ℕ) → T (every allowed (digits n))
 digits-allowed n = every-allowed (digits n) (digits-every n)
 
 -- ---- one line
