@@ -39,13 +39,13 @@ fields-parted kind (next ∷ others) f =
 
 -- ---- the fields of a content, joined, are the content
 
-record Parted (c : List ℕ) : Type 0 where
-  kind : List ℕ
-  others : List (List ℕ)
-  are : fields c ≡ kind ∷ others
-  joined : c ≡ kind ++ flat tabbed others
+pub record Parted (c : List ℕ) : Type 0 where
+  pub kind : List ℕ
+  pub others : List (List ℕ)
+  pub are : fields c ≡ kind ∷ others
+  pub joined : c ≡ kind ++ flat tabbed others
 
-parted : (c : List ℕ) → Parted c
+pub parted : (c : List ℕ) → Parted c
 parted [] = record { kind = []; others = []; are = refl; joined = refl }
 parted (x ∷ c) = go (eqb x TAB) refl (parted c)
   where
@@ -64,9 +64,9 @@ parted (x ∷ c) = go (eqb x TAB) refl (parted c)
     }
 
 -- a byte of a field is a byte of the content, and no tab
-record Inside (c : List ℕ) (x : ℕ) : Type 0 where
-  within : x ∈ c
-  plain : x ≡ TAB → ⊥
+pub record Inside (c : List ℕ) (x : ℕ) : Type 0 where
+  pub within : x ∈ c
+  pub plain : x ≡ TAB → ⊥
 
 deeper : (y : ℕ) (c : List ℕ) (x : ℕ) → Inside c x → Inside (y ∷ c) x
 deeper y c x i = record { within = there (i .within); plain = i .plain }
@@ -86,7 +86,7 @@ onto-inside y c f (part ∷ parts) h s (here e) x m = first (subst (λ (r : List
     first (there k) = deeper y c x (h part (here refl) x k)
 onto-inside y c f (part ∷ parts) h s (there i) x m = deeper y c x (h s (there i) x m)
 
-field-inside : (c : List ℕ) (s : List ℕ) → s ∈ fields c → (x : ℕ) → x ∈ s → Inside c x
+pub field-inside : (c : List ℕ) (s : List ℕ) → s ∈ fields c → (x : ℕ) → x ∈ s → Inside c x
 field-inside [] s (here e) x m = absurd (List·Memᴰ·not-nil (subst (λ (r : List ℕ). x ∈ r) e m))
 field-inside [] s (there i) x m = absurd (List·Memᴰ·not-nil i)
 field-inside (y ∷ c) s i x m = go (eqb y TAB) refl i (field-inside c)
@@ -99,13 +99,13 @@ field-inside (y ∷ c) s i x m = go (eqb y TAB) refl i (field-inside c)
 
 -- ---- bytes
 
-plain-byte : (x : ℕ) → T (allowed x) → (x ≡ TAB → ⊥) → (32 ≤ x) × (x ≤ 126)
+pub plain-byte : (x : ℕ) → T (allowed x) → (x ≡ TAB → ⊥) → (32 ≤ x) × (x ≤ 126)
 plain-byte x t f =
     let u : T (leb 32 x && leb x 126) = rw (ne-eqb x TAB f) at t in
     let a = and-yes (leb 32 x) (leb x 126) u in
     (leb-yes (a .0), leb-yes (a .1))
 
-byte-allowed : (x : ℕ) → (32 ≤ x) × (x ≤ 126) → T (allowed x)
+pub byte-allowed : (x : ℕ) → (32 ≤ x) × (x ≤ 126) → T (allowed x)
 byte-allowed x h = rw (ne-eqb x TAB (omega (arith, h .0)), le-leb 32 x (h .0), le-leb x 126 (h .1)) tt
 
 field-allowed : (s : List ℕ) → ((x : ℕ) → x ∈ s → (32 ≤ x) × (x ≤ 126)) → T (every allowed s)
@@ -120,7 +120,7 @@ others-allowed (s ∷ others) h =
 
 -- ---- filled fields
 
-filled-some : (s : List ℕ) → T (filled s) → 1 ≤ length s
+pub filled-some : (s : List ℕ) → T (filled s) → 1 ≤ length s
 filled-some [] t = absurd t
 filled-some (x ∷ s) t = omega arith
 
@@ -128,7 +128,7 @@ some-filled : (s : List ℕ) → 1 ≤ length s → T (filled s)
 some-filled [] h = absurd (omega arith)
 some-filled (x ∷ s) h = tt
 
-all-filled : (parts : List (List ℕ)) → T (every filled parts) → (s : List ℕ) → s ∈ parts → T (filled s)
+pub all-filled : (parts : List (List ℕ)) → T (every filled parts) → (s : List ℕ) → s ∈ parts → T (filled s)
 all-filled [] t s m = absurd (List·Memᴰ·not-nil m)
 all-filled (part ∷ parts) t s (here e) = subst (λ (r : List ℕ). T (filled r)) (sym e) (and-yes (filled part) (every filled parts) t .0)
 all-filled (part ∷ parts) t s (there m) = all-filled parts (and-yes (filled part) (every filled parts) t .1) s m

@@ -5,6 +5,7 @@ pub mod Decimals
 pub mod Contents
 pub mod Following
 pub mod Faults
+pub mod LineFaults
 pub mod Accepting
 pub mod Refusing
 pub mod ReadBack

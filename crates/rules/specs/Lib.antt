@@ -26,3 +26,4 @@ pub mod Promises
 pub mod Demands
 pub mod Room
 pub mod ReadableText
+pub mod Refusal
