@@ -1,7 +1,8 @@
 -- The call of check: `check` and its export (crates/brooksaddle/src/lib.rt) ask nothing, and ensure `Checks` of the text handed in and the
 -- four numbers answered; what follows holds of every such call. Accepted: the text is a table in document 01's words, and its records are
--- counted and its tree measured. Refused: no count and no depth. t are a table's rows. Assumes nothing.
-use mathlib.Core.Path.{_≡_, refl, sym, ap, _∙_}
+-- counted and its tree measured. Refused: the code and the line that these words give, no count and no depth. t are a table's rows. Assumes
+-- nothing.
+use mathlib.Core.Path.{_≡_, refl, sym, ap, _∙_, subst}
 use mathlib.Core.Logic.{_↔_}
 use mathlib.Core.List.{List, []}
 use Prim.Native.Nat.{ℕ}
@@ -12,15 +13,21 @@ use Rattle.rules.specs.Tree.{treeOf}
 use Rattle.rules.specs.Calls.{checked, checkAnswer}
 use Rattle.rules.specs.Promises.{Checks}
 use Rattle.rules.specs.ReadableText.{IsTable}
+use Rattle.rules.specs.Refusal.{Refused}
 use Rattle.rules.specs.declared.answers.Checked.{Checked}
 use Rattle.trees.proofs.Deepest.{height, deepest}
 use Rattle.readback.proofs.Following.{good-readable}
 use Rattle.readback.proofs.Accepting.{good, refused-code}
 use Rattle.readback.proofs.ReadableText.{readable-exactly as exactly}
+use Rattle.readback.proofs.RefusedText.{refused-exactly as words}
 
 -- a text is read, with these rows, exactly if it is a table with these rows in document 01's words
 pub readable-exactly : (text : List ℕ) (t : List Row) → (verdict text ≡ readable t) ↔ IsTable text t
 readable-exactly = exactly
+
+-- and it is refused, with this code on this line, exactly if document 01's words give it that code there
+pub refused-exactly : (text : List ℕ) (code line : ℕ) → (verdict text ≡ unreadable code line) ↔ Refused text code line
+refused-exactly = words
 
 -- "code, line, count of records, greatest depth"
 abbrev pub four : ℕ → ℕ → ℕ → ℕ → Checked
@@ -53,11 +60,23 @@ module _ (text : List ℕ) (answer : Checked) (call : Checks text answer) where
 
   -- ---- refused: "On refusal count and depth are 0."
 
-  pub check-refused : (answer .code ≡ 0 → ⊥) → answer ≡ four (answer .code) (answer .line) 0 0
-  check-refused f = go (verdict text) refl
+  unread : (code line : ℕ) → verdict text ≡ unreadable code line → answer ≡ four code line 0 0
+  unread code line e = call .answered ∙ ap checked e
+
+  -- codes 1 and 2 for the whole text, then the lowest code of the first faulty line, with its place
+  pub check-refused : (code line : ℕ) → Refused text code line → answer ≡ four code line 0 0
+  check-refused code line w = unread code line (refused-exactly text code line .1 w)
+
+  -- and no other code or line is told
+  pub check-told : (answer .code ≡ 0 → ⊥)
+      → Refused text (answer .code) (answer .line) × (answer ≡ four (answer .code) (answer .line) 0 0)
+  check-told f = go (verdict text) refl
     where
-      go : (v : Verdict) → verdict text ≡ v → answer ≡ four (answer .code) (answer .line) 0 0
+      go : (v : Verdict) → verdict text ≡ v
+          → Refused text (answer .code) (answer .line) × (answer ≡ four (answer .code) (answer .line) 0 0)
       go (readable t) e = absurd (f (ap (λ (a : Checked). a .code) (read t e)))
       go (unreadable code line) e =
-          let told : answer ≡ four code line 0 0 = call .answered ∙ ap checked e in
-          told ∙ λ i. four (sym told i .code) (sym told i .line) 0 0
+          let told : answer ≡ four code line 0 0 = unread code line e in (
+            subst (λ (a : Checked). Refused text (a .code) (a .line)) (sym told) (words text code line .0 e),
+            told ∙ λ i. four (sym told i .code) (sym told i .line) 0 0,
+          )

@@ -14,6 +14,7 @@ use Rattle.rules.specs.Lists.{_∈_}
 use Rattle.rules.specs.Marks.{TOP}
 use Rattle.rules.specs.Line.{Row}
 use Rattle.rules.specs.Table.{numbers, readable, verdict}
+use Rattle.rules.specs.Written.{written}
 use Rattle.rules.specs.ReadableText.{IsRow, IsTable}
 use Rattle.readback.proofs.Contents.{writable-content, content-writable}
 use Rattle.readback.proofs.Following.{Follows, Good, good-few, seen-cases}
@@ -96,6 +97,10 @@ each-good seen (x ∷ t) ranged few h = (
         subst (λ (s : List Row). IsRow s y) (sym (append-snoc seen x before)) (h (x ∷ before) y after (ap (λ (r : List Row). x ∷ r) e))
 
 -- ---- the text
+
+-- what is written of rows that may follow one another is a table, if it is not too long
+pub good-table : (t : List Row) → Good [] t → length (written t) ≤ 32768 → IsTable (written t) t
+good-table t g h = record { lines = refl; rows = good-each [] t g; few = good-few t g; short = h }
 
 pub readable-exactly : (text : List ℕ) (t : List Row) → (verdict text ≡ readable t) ↔ IsTable text t
 readable-exactly text t = (to, from)

@@ -161,7 +161,7 @@ endedLine l = l ++ (LF ∷ [])
 abbrev pub joined : List (List ℕ) → List ℕ
 joined ls = flat endedLine ls
 
-last-append : (x : ℕ) (s t : List ℕ) → last x (s ++ t) ≡ last (last x s) t
+pub last-append : (x : ℕ) (s t : List ℕ) → last x (s ++ t) ≡ last (last x s) t
 last-append x [] t = refl
 last-append x (y ∷ s) t = last-append y s t
 
@@ -173,7 +173,7 @@ last-joined (l ∷ ls) =
 pub joined-ended : (ls : List (List ℕ)) → ended (joined ls) ≡ true
 joined-ended ls = rw (last-joined ls)
 
-lines-at : (s t : List ℕ) → (LF ∈ s → ⊥) → lines (s ++ (LF ∷ t)) ≡ s ∷ lines t
+pub lines-at : (s t : List ℕ) → (LF ∈ s → ⊥) → lines (s ++ (LF ∷ t)) ≡ s ∷ lines t
 lines-at [] t f = refl
 lines-at (x ∷ s) t f = rw (ne-eqb x LF (λ e. f (here (sym e)))) (ap (onto x) (lines-at s t (λ m. f (there m))))
 
