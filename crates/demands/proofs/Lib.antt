@@ -1,4 +1,4 @@
--- The demands, over the texts handed in and the bytes written. Begin with OnTheCall.
+-- The demands, over the texts handed in and the bytes written. Begin with OnTheCall; OnCheck and OnTidy state the other two calls.
 pub mod Packing
 pub mod Reading
 pub mod Coded

@@ -21,9 +21,13 @@ use Rattle.rules.specs.Ledger.{Entry, entriesOf, ledger as ledgerOf}
 use Rattle.rules.specs.Calls.{Outcome, done, mergeOutcome, answerOf, told, tableAfter, ledgerAfter}
 use Rattle.rules.specs.Promises.{Merges}
 use Rattle.rules.specs.Demands.{Within, Tables, Answered, tradedOutcome}
+use Rattle.rules.specs.ReadableText.{IsTable}
+use Rattle.rules.specs.Refusal.{Refused}
 use Rattle.rules.specs.Room.{TooLarge, Sized, TableTooLong, LedgerTooLong}
 use Rattle.rules.specs.declared.answers.Merged.{Merged}
 use Rattle.rules.proofs.Settled.{merge-settled}
+use Rattle.readback.proofs.ReadableText.{readable-exactly}
+use Rattle.readback.proofs.RefusedText.{refused-exactly}
 use Rattle.demands.proofs.Reading.{old-unread, branch-unread, done-read}
 use Rattle.demands.proofs.Coded.{texts-coded, zero-done}
 use Rattle.demands.proofs.Swapping.{traded-answer, traded-table}
@@ -173,6 +177,16 @@ module _ (old first second table ledger : List ℕ) (answer answer′ : Merged) 
     turned .ledgered ∙ ap (λ (x : Outcome). ledgerAfter x ledger) swap,
   )
 
+-- ---- the tables of three texts, in document 01's words
+
+pub tables-are : (old first second : List ℕ) (o f s : List Row) → IsTable old o → IsTable first f → IsTable second s
+    → Tables old (first ∷ second ∷ []) o (f ∷ s ∷ [])
+tables-are old first second o f s p q r =
+    record {
+      old-read = readable-exactly old o .1 p;
+      branches-read = λ i. readable-exactly first f .1 q i ∷ readable-exactly second s .1 r i ∷ [];
+    }
+
 -- ---- lack of room: 26, 31 and 32 are told exactly if the tree that answers lacks that room, and the lengths told are those needed
 
 module _ (old first second table ledger : List ℕ) (answer : Merged) (table′ ledger′ : List ℕ)
@@ -205,6 +219,23 @@ module _ (old first second table ledger : List ℕ) (answer : Merged) (table′ 
     pub clash-told : (code place : ℕ) → merge (factsOf o) (map factsOf bs) ≡ refused code place → answer ≡ told code 0 place 0 0
     clash-told code place m =
         call .answered ∙ ap answerOf (clash-ends old (first ∷ second ∷ []) o bs read (length table) (length ledger) code place m)
+
+  -- "An unreadable table is refused with table, line and fault", each in document 01's words: the first of old, first and second
+
+  pub unread-old : (code line : ℕ) → Refused old code line → answer ≡ told code 1 line 0 0
+  unread-old code line u =
+      demand1-old old first second table ledger answer table′ ledger′ call code line (refused-exactly old code line .1 u)
+
+  pub unread-first : (o : List Row) (code line : ℕ) → IsTable old o → Refused first code line → answer ≡ told code 2 line 0 0
+  unread-first o code line p u =
+      demand1-first old first second table ledger answer table′ ledger′ call o code line (readable-exactly old o .1 p)
+      (refused-exactly first code line .1 u)
+
+  pub unread-second : (o f : List Row) (code line : ℕ) → IsTable old o → IsTable first f → Refused second code line
+      → answer ≡ told code 3 line 0 0
+  unread-second o f code line p q u =
+      demand1-second old first second table ledger answer table′ ledger′ call o f code line (readable-exactly old o .1 p)
+      (readable-exactly first f .1 q) (refused-exactly second code line .1 u)
 
   -- whatever the texts: the lengths told, and the room that is always enough. Document 01's buffers hold 32,768 and 8,192 bytes.
 

@@ -40,7 +40,7 @@ width-five n h = go (ltb n 10) (ltb n 100) (ltb n 1000) (ltb n 10000) (ltb n 100
 -- ---- lines
 
 -- the two numbers that every line of a ledger ends with
-end-length : (a b : ℕ) → length (digits a ++ (TAB ∷ (digits b ++ (LF ∷ [])))) ≡ 2 + width a + width b
+pub end-length : (a b : ℕ) → length (digits a ++ (TAB ∷ (digits b ++ (LF ∷ [])))) ≡ 2 + width a + width b
 end-length a b =
     length-append (digits a) (TAB ∷ (digits b ++ (LF ∷ [])))
     ∙ omega (arith, length-append (digits b) (LF ∷ []), digits-length a, digits-length b)

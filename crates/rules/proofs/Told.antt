@@ -10,7 +10,7 @@ use Rattle.rules.specs.Facts.{factsOf}
 use Rattle.rules.specs.Merge.{merge, contentClashes, parentClashes, neighbourClashes, brokenLists, lostEdits, mergedTree}
 use Rattle.rules.specs.Merge.{keptPositions, keptContents, positionEdits, contentEdits, walk, follower, contentIn}
 use Rattle.rules.specs.Written.{digits}
-use Rattle.rules.specs.Calls.{Outcome, tooLarge, mergeTexts, mergeTables, answerOf, shown, checkAnswer, tidyAnswer}
+use Rattle.rules.specs.Calls.{Outcome, tooLarge, mergeTexts, mergeTables, told, answerOf, shown, checkAnswer, tidyAnswer}
 use Rattle.rules.specs.declared.answers.Checked.{Checked}
 use Rattle.rules.specs.declared.answers.Tidied.{Tidied}
 use Rattle.rules.specs.declared.answers.Merged.{Merged}
@@ -138,6 +138,11 @@ pub prints : map (λ (k : Merge). shown (outcome k)) merges ≡ map (λ (k : Mer
 unfolding mergeTexts mergeTables merge contentClashes parentClashes neighbourClashes brokenLists lostEdits mergedTree
     keptPositions keptContents positionEdits contentEdits walk follower contentIn factsOf digits
 prints = refl
+
+-- the five numbers stand where their names say
+pub told-is : (code table place tableLength ledgerLength : ℕ)
+    → told code table place tableLength ledgerLength ≡ five code table place tableLength ledgerLength
+told-is code table place tableLength ledgerLength = refl
 
 -- a table over the limits is too large to be computed with here
 pub too-large : answerOf tooLarge ≡ five 26 0 0 0 0
