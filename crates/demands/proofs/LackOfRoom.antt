@@ -17,7 +17,7 @@ use Rattle.rules.specs.Calls.{Outcome, clash, mergeTexts, answerOf, told}
 use Rattle.rules.specs.Demands.{Answers, Tables}
 use Rattle.rules.specs.Room.{TooLarge, TableTooLong, LedgerTooLong}
 use Rattle.rules.specs.declared.answers.Merged.{Merged}
-use Rattle.demands.proofs.Room.{Ends, large, tableLong, ledgerLong, fits, ends, answer-ends}
+use Rattle.demands.proofs.Room.{Ends, large, tableLong, ledgerLong, fits, Clashed, ends, answer-ends}
 
 -- over the limits and within them exclude each other
 not-both : (f : Tree) → (512 < length (rows TOP f)) ⊎ (32768 < length (writtenTree f)) → length (rows TOP f) ≤ 512
@@ -46,9 +46,8 @@ module _ (old : List ℕ) (branches : List (List ℕ)) (o : List Row) (bs : List
   answering : 25 < answer .code → (f : Tree) × AnswersMerge f
   answering z = go (ends old branches o bs read a b)
     where
-      go : ((code : ℕ) × (place : ℕ) × (21 ≤ code) × (code ≤ 25) × (mergeTexts old branches a b ≡ clash code place))
-          ⊎ ((f : Tree) × AnswersMerge f) → (f : Tree) × AnswersMerge f
-      go (inl c) = absurd (omega (arith, c .3, code-of (clash (c .0) (c .1)) (c .4)))
+      go : Clashed o bs (mergeTexts old branches a b) ⊎ ((f : Tree) × AnswersMerge f) → (f : Tree) × AnswersMerge f
+      go (inl c) = absurd (omega (arith, c .high, code-of (clash (c .code) (c .place)) (c .told)))
       go (inr w) = w
 
   -- ---- 26

@@ -9,11 +9,11 @@ use Rattle.rules.specs.Line.{Row}
 use Rattle.rules.specs.Tree.{Tree}
 use Rattle.rules.specs.Facts.{factsOf}
 use Rattle.rules.specs.Ledger.{entriesOf}
-use Rattle.rules.specs.Calls.{Outcome, clash, mergeTexts, answerOf}
+use Rattle.rules.specs.Calls.{Outcome, mergeTexts, answerOf}
 use Rattle.rules.specs.Demands.{Answers, Tables}
 use Rattle.rules.specs.declared.answers.Merged.{Merged}
 use Rattle.demands.proofs.Unread.{Unread, read-or-not}
-use Rattle.demands.proofs.Room.{Ends, large, tableLong, ledgerLong, fits, ends, answer-ends}
+use Rattle.demands.proofs.Room.{Ends, large, tableLong, ledgerLong, fits, Clashed, ends, answer-ends}
 use Rattle.demands.proofs.LackOfRoom.{table-exactly, ledger-exactly}
 use Rattle.demands.proofs.Bounds.{ledger-bound}
 
@@ -50,15 +50,14 @@ module _ (old first second : List ℕ) (a b : ℕ) (answer : Merged) (is : answe
     read-limited : Limited answer
     read-limited = go (ends old branches o bs read a b)
       where
-        go : ((code : ℕ) × (place : ℕ) × (21 ≤ code) × (code ≤ 25) × (mergeTexts old branches a b ≡ clash code place))
-            ⊎ ((f : Tree) × Answers (factsOf o) (map factsOf bs) f) → Limited answer
-        go (inl c) = limited _ (c .4) (omega arith) (omega arith)
+        go : Clashed o bs (mergeTexts old branches a b) ⊎ ((f : Tree) × Answers (factsOf o) (map factsOf bs) f) → Limited answer
+        go (inl c) = limited _ (c .told) (omega arith) (omega arith)
         go (inr w) = tree-limited (w .0) (w .1) (answer-ends old branches o bs read a b (w .0) (w .1))
 
   pub all-limited : Limited answer
   all-limited = go (read-or-not old branches a b)
     where
-      go : ((o : List Row) × (bs : List (List Row)) × Tables old branches o bs) ⊎ Unread (mergeTexts old branches a b) → Limited answer
+      go : ((o : List Row) × (bs : List (List Row)) × Tables old branches o bs) ⊎ Unread 3 (mergeTexts old branches a b) → Limited answer
       go (inl r) = read-limited (r .0) (r .1) (r .2)
       go (inr u) = limited _ (u .told) (omega arith) (omega arith)
 
@@ -66,7 +65,7 @@ module _ (old first second : List ℕ) (a b : ℕ) (answer : Merged) (is : answe
   pub were-read : 10 < answer .code → (o : List Row) × (bs : List (List Row)) × Tables old branches o bs
   were-read z = go (read-or-not old branches a b)
     where
-      go : ((o : List Row) × (bs : List (List Row)) × Tables old branches o bs) ⊎ Unread (mergeTexts old branches a b)
+      go : ((o : List Row) × (bs : List (List Row)) × Tables old branches o bs) ⊎ Unread 3 (mergeTexts old branches a b)
           → (o : List Row) × (bs : List (List Row)) × Tables old branches o bs
       go (inl r) = r
       go (inr u) = absurd (omega (arith, ap (λ (m : Merged). m .code) (is ∙ ap answerOf (u .told)), u .high))

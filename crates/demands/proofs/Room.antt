@@ -82,6 +82,15 @@ merge-code old branches =
 
 -- ---- the end of a merge
 
+-- the facts of these tables have a clash, and the merge ended with it
+pub record Clashed (o : List Row) (bs : List (List Row)) (end : Outcome) : Type 0 where
+  pub code : ℕ
+  pub place : ℕ
+  pub low : 21 ≤ code
+  pub high : code ≤ 25
+  pub found : merge (factsOf o) (map factsOf bs) ≡ refused code place
+  pub told : end ≡ clash code place
+
 module _ (old : List ℕ) (branches : List (List ℕ)) (o : List Row) (bs : List (List Row)) (read : Tables old branches o bs) (a b : ℕ) where
   abbrev pack : Tree → Outcome
   pack f = packed f (entriesOf o bs f) a b
@@ -102,12 +111,12 @@ module _ (old : List ℕ) (branches : List (List ℕ)) (o : List Row) (bs : List
   answer-ends f w = rw (answer-packed f w) (packed-ends f (entriesOf o bs f) a b)
 
   -- a clash, or a tree that answers
-  pub ends : ((code : ℕ) × (place : ℕ) × (21 ≤ code) × (code ≤ 25) × (mergeTexts old branches a b ≡ clash code place))
-      ⊎ ((f : Tree) × Answers (factsOf o) (map factsOf bs) f)
+  pub ends : Clashed o bs (mergeTexts old branches a b) ⊎ ((f : Tree) × Answers (factsOf o) (map factsOf bs) f)
   ends = go (merge (factsOf o) (map factsOf bs)) refl (merge-code (factsOf o) (map factsOf bs))
     where
       go : (result : Result) → merge (factsOf o) (map factsOf bs) ≡ result → ClashCode (merge (factsOf o) (map factsOf bs))
-          → ((code : ℕ) × (place : ℕ) × (21 ≤ code) × (code ≤ 25) × (mergeTexts old branches a b ≡ clash code place))
-          ⊎ ((f : Tree) × Answers (factsOf o) (map factsOf bs) f)
-      go (refused code place) m c = let k : ClashCode (refused code place) = rw m at c in inl (code, place, k .0, k .1, clash-ends code place m)
+          → Clashed o bs (mergeTexts old branches a b) ⊎ ((f : Tree) × Answers (factsOf o) (map factsOf bs) f)
+      go (refused code place) m c =
+          let k : ClashCode (refused code place) = rw m at c in
+          inl (record { code = code; place = place; low = k .0; high = k .1; found = m; told = clash-ends code place m })
       go (merged f) m c = inr (f, facts.demand3 o bs (all-readable old branches o bs read) f .1 m)

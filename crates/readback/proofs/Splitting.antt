@@ -80,6 +80,12 @@ count-after b (x ∷ s) =
     let ih : count b s ≤ suc (count b (after b s)) = count-after b s in
     elim (eqb x b) as (λ u. cond u (suc (count b s)) (count b s) ≤ suc (count b (cond u s (after b s)))) [ true ↦ omega arith | false ↦ ih ]
 
+pub count-le : (x : ℕ) (s : List ℕ) → count x s ≤ length s
+count-le x [] = omega arith
+count-le x (y ∷ s) =
+    let ih : count x s ≤ length s = count-le x s in
+    elim (eqb y x) as (λ t. cond t (suc (count x s)) (count x s) ≤ suc (length s)) [ true ↦ omega arith | false ↦ omega arith ]
+
 -- ---- where the parts lie
 
 pub after-le : (b : ℕ) (s : List ℕ) → length (after b s) ≤ length s
