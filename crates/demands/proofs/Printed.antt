@@ -1,5 +1,5 @@
--- The demonstration's output, read back: its first line has five fields, the digits of the five numbers in document 01's order, and behind it
--- stand the table and the ledger if the merge is done, and nothing if it is not. n and k are numbers, ns are numbers. Assumes nothing.
+-- The demonstration's output, read back: its first line has five fields, the digits of the five numbers in document 01's order, and behind
+-- it stand the table and the ledger if the merge is done, and nothing if it is not. n, k and ns are numbers. Assumes nothing.
 use mathlib.Core.Path.{_≡_, refl, sym, ap, ap₂, _∙_}
 use mathlib.Core.List.{List, [], _∷_, _++_, map, append-assoc, append-nil, List·Memᴰ·head as here, List·Memᴰ·tail as there, Memᴰ·of-map}
 use Prim.Native.Nat.{ℕ, _<_}

@@ -1,6 +1,6 @@
 -- The five numbers that a call of merge tells, whatever the texts: code at most 32, table at most 3, place at most 65,535, table length at
--- most 32,768 and ledger length at most 6,160. So each has at most six digits, and the line that is printed of them reads back as them. a and
--- b are the room of the two buffers. Assumes nothing.
+-- most 32,768 and ledger length at most 6,160. So each has at most six digits, and the line that is printed of them reads back as them. a
+-- and b are the room of the two buffers. Assumes nothing.
 use mathlib.Core.Path.{_≡_, sym, ap, _∙_, subst}
 use mathlib.Core.Logic.{_⊎_, inl, inr}
 use mathlib.Core.List.{List, [], _∷_, map, List·Memᴰ·head as here, List·Memᴰ·tail as there, List·Memᴰ·not-nil}

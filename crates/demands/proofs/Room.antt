@@ -96,7 +96,8 @@ module _ (old : List ℕ) (branches : List (List ℕ)) (o : List Row) (bs : List
   pack f = packed f (entriesOf o bs f) a b
 
   -- a clash that the facts have, with its place
-  pub clash-ends : (code place : ℕ) → merge (factsOf o) (map factsOf bs) ≡ refused code place → mergeTexts old branches a b ≡ clash code place
+  pub clash-ends : (code place : ℕ) → merge (factsOf o) (map factsOf bs) ≡ refused code place
+      → mergeTexts old branches a b ≡ clash code place
   unfolding mergeTables
   clash-ends code place m = read-merged old branches o bs read a b ∙ ap (λ (r : Result). judged r pack) m
 

@@ -1,5 +1,5 @@
--- A content that a line may hold is document 01's: one or more filled fields of bytes 32 to 126, parted by tabs, 1 to 120 bytes in all. c is
--- a content, s a field, x a byte. Assumes nothing.
+-- A content that a line may hold is document 01's: one or more filled fields of bytes 32 to 126, parted by tabs, 1 to 120 bytes in all. c
+-- is a content, s a field, x a byte. Assumes nothing.
 use mathlib.Core.Path.{_≡_, refl, sym, ap, _∙_, subst}
 use mathlib.Core.Bool.{Bool, true, false, cond, _&&_}
 use mathlib.Core.List.{List, [], _∷_, _++_, append-nil, List·Memᴰ·head as here, List·Memᴰ·tail as there, List·Memᴰ·not-nil}

@@ -255,45 +255,67 @@ module _ (seen : List Row) (l : List ℕ) where
       go true b4 b5 b6 b7 b8 b9 b10 p3 p4 p5 p6 p7 p8 p9 p10 =
           record {
             has = λ f. line513 (leb-yes (holds p3));
-            lower = none-lower 3 (later 3 3 (omega arith) (omega arith)) (later 3 4 (omega arith) (omega arith)) (later 3 5 (omega arith) (omega arith)) (later 3 6 (omega arith) (omega arith)) (later 3 7 (omega arith) (omega arith)) (later 3 8 (omega arith) (omega arith)) (later 3 9 (omega arith) (omega arith)) (later 3 10 (omega arith) (omega arith));
+            lower =
+                none-lower 3 (later 3 3 (omega arith) (omega arith)) (later 3 4 (omega arith) (omega arith))
+                (later 3 5 (omega arith) (omega arith)) (later 3 6 (omega arith) (omega arith)) (later 3 7 (omega arith) (omega arith))
+                (later 3 8 (omega arith) (omega arith)) (later 3 9 (omega arith) (omega arith)) (later 3 10 (omega arith) (omega arith));
           }
       go false true b5 b6 b7 b8 b9 b10 p3 p4 p5 p6 p7 p8 p9 p10 =
           record {
             has = λ f. byte-fault (holds p4);
-            lower = none-lower 4 (λ o. fails p3) (later 4 4 (omega arith) (omega arith)) (later 4 5 (omega arith) (omega arith)) (later 4 6 (omega arith) (omega arith)) (later 4 7 (omega arith) (omega arith)) (later 4 8 (omega arith) (omega arith)) (later 4 9 (omega arith) (omega arith)) (later 4 10 (omega arith) (omega arith));
+            lower =
+                none-lower 4 (λ o. fails p3) (later 4 4 (omega arith) (omega arith)) (later 4 5 (omega arith) (omega arith))
+                (later 4 6 (omega arith) (omega arith)) (later 4 7 (omega arith) (omega arith)) (later 4 8 (omega arith) (omega arith))
+                (later 4 9 (omega arith) (omega arith)) (later 4 10 (omega arith) (omega arith));
           }
       go false false true b6 b7 b8 b9 b10 p3 p4 p5 p6 p7 p8 p9 p10 =
           record {
             has = λ f. fewTabs (ltb-true (count TAB l) 2 p5);
-            lower = none-lower 5 (λ o. fails p3) (λ o. fails p4) (later 5 5 (omega arith) (omega arith)) (later 5 6 (omega arith) (omega arith)) (later 5 7 (omega arith) (omega arith)) (later 5 8 (omega arith) (omega arith)) (later 5 9 (omega arith) (omega arith)) (later 5 10 (omega arith) (omega arith));
+            lower =
+                none-lower 5 (λ o. fails p3) (λ o. fails p4) (later 5 5 (omega arith) (omega arith))
+                (later 5 6 (omega arith) (omega arith)) (later 5 7 (omega arith) (omega arith)) (later 5 8 (omega arith) (omega arith))
+                (later 5 9 (omega arith) (omega arith)) (later 5 10 (omega arith) (omega arith));
           }
       go false false false true b7 b8 b9 b10 p3 p4 p5 p6 p7 p8 p9 p10 =
           record {
             has = λ f. number-fault (two p5) (holds p6);
-            lower = none-lower 6 (λ o. fails p3) (λ o. fails p4) (λ o. fails p5) (later 6 6 (omega arith) (omega arith)) (later 6 7 (omega arith) (omega arith)) (later 6 8 (omega arith) (omega arith)) (later 6 9 (omega arith) (omega arith)) (later 6 10 (omega arith) (omega arith));
+            lower =
+                none-lower 6 (λ o. fails p3) (λ o. fails p4) (λ o. fails p5) (later 6 6 (omega arith) (omega arith))
+                (later 6 7 (omega arith) (omega arith)) (later 6 8 (omega arith) (omega arith)) (later 6 9 (omega arith) (omega arith))
+                (later 6 10 (omega arith) (omega arith));
           }
       go false false false false true b8 b9 b10 p3 p4 p5 p6 p7 p8 p9 p10 =
           record {
             has = λ f. parent-fault (two p5) (holds p7);
-            lower = none-lower 7 (λ o. fails p3) (λ o. fails p4) (λ o. fails p5) (λ o. fails p6) (later 7 7 (omega arith) (omega arith)) (later 7 8 (omega arith) (omega arith)) (later 7 9 (omega arith) (omega arith)) (later 7 10 (omega arith) (omega arith));
+            lower =
+                none-lower 7 (λ o. fails p3) (λ o. fails p4) (λ o. fails p5) (λ o. fails p6) (later 7 7 (omega arith) (omega arith))
+                (later 7 8 (omega arith) (omega arith)) (later 7 9 (omega arith) (omega arith)) (later 7 10 (omega arith) (omega arith));
           }
       go false false false false false true b9 b10 p3 p4 p5 p6 p7 p8 p9 p10 =
           record {
             has = λ f. content-fault (two p5) (holds p8);
-            lower = none-lower 8 (λ o. fails p3) (λ o. fails p4) (λ o. fails p5) (λ o. fails p6) (λ o. fails p7) (later 8 8 (omega arith) (omega arith)) (later 8 9 (omega arith) (omega arith)) (later 8 10 (omega arith) (omega arith));
+            lower =
+                none-lower 8 (λ o. fails p3) (λ o. fails p4) (λ o. fails p5) (λ o. fails p6) (λ o. fails p7)
+                (later 8 8 (omega arith) (omega arith)) (later 8 9 (omega arith) (omega arith)) (later 8 10 (omega arith) (omega arith));
           }
       go false false false false false false true b10 p3 p4 p5 p6 p7 p8 p9 p10 =
           record {
             has = λ f. twice-fault (two p5) (fails p6) (holds p9);
-            lower = none-lower 9 (λ o. fails p3) (λ o. fails p4) (λ o. fails p5) (λ o. fails p6) (λ o. fails p7) (λ o. fails p8) (later 9 9 (omega arith) (omega arith)) (later 9 10 (omega arith) (omega arith));
+            lower =
+                none-lower 9 (λ o. fails p3) (λ o. fails p4) (λ o. fails p5) (λ o. fails p6) (λ o. fails p7) (λ o. fails p8)
+                (later 9 9 (omega arith) (omega arith)) (later 9 10 (omega arith) (omega arith));
           }
       go false false false false false false false true p3 p4 p5 p6 p7 p8 p9 p10 =
           record {
             has = λ f. missing-fault (two p5) (fails p7) (holds p10);
-            lower = none-lower 10 (λ o. fails p3) (λ o. fails p4) (λ o. fails p5) (λ o. fails p6) (λ o. fails p7) (λ o. fails p8) (λ o. fails p9) (later 10 10 (omega arith) (omega arith));
+            lower =
+                none-lower 10 (λ o. fails p3) (λ o. fails p4) (λ o. fails p5) (λ o. fails p6) (λ o. fails p7) (λ o. fails p8)
+                (λ o. fails p9) (later 10 10 (omega arith) (omega arith));
           }
       go false false false false false false false false p3 p4 p5 p6 p7 p8 p9 p10 =
           record {
             has = λ f. absurd (f refl);
-            lower = none-lower 0 (λ o. fails p3) (λ o. fails p4) (λ o. fails p5) (λ o. fails p6) (λ o. fails p7) (λ o. fails p8) (λ o. fails p9) (λ o. fails p10);
+            lower =
+                none-lower 0 (λ o. fails p3) (λ o. fails p4) (λ o. fails p5) (λ o. fails p6) (λ o. fails p7) (λ o. fails p8)
+                (λ o. fails p9) (λ o. fails p10);
           }

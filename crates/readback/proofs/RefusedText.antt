@@ -143,7 +143,8 @@ module _ (text : List ℕ) (short : length text ≤ 32768) (whole : ended text �
       sym (lines-joined text whole)
       ∙ ap joined (stop .split)
       ∙ joined-append (stop .fine) (stop .faulty ∷ stop .rest)
-      ∙ ap (λ (s : List ℕ). s ++ (endedLine (stop .faulty) ++ joined (stop .rest))) (sym (lines-canonical [] (stop .fine) (stop .faultless)))
+      ∙ ap (λ (s : List ℕ). s ++ (endedLine (stop .faulty) ++ joined (stop .rest)))
+      (sym (lines-canonical [] (stop .fine) (stop .faultless)))
       ∙ ap (λ (s : List ℕ). written before ++ s) (append-snoc (stop .faulty) LF (joined (stop .rest)))
 
   first-fault : FirstFault text code line
@@ -185,8 +186,8 @@ refused-words text code line e = go (ltb BYTES (length text)) (ended text) refl 
     last-byte (x ∷ s) q = (last x s, ends-in x s, eqb-false (last x s) LF q)
 
     go : (long whole : Bool) → ltb BYTES (length text) ≡ long → ended text ≡ whole
-        → cond long (unreadable 1 0) (cond (not whole) (unreadable 2 (count LF text + 1)) (readLines [] (lines text))) ≡ unreadable code line
-        → Refused text code line
+        → cond long (unreadable 1 0) (cond (not whole) (unreadable 2 (count LF text + 1)) (readLines [] (lines text)))
+        ≡ unreadable code line → Refused text code line
     go true whole p q e =
         let c : 1 ≡ code = cc in
         let l : 0 ≡ line = cc in

@@ -1,5 +1,5 @@
--- "The table as text" in document 01's own words and numbers: what a text must be so that it is a table, and nothing on how it is read. x is
--- a row, c a content, t are a table's rows. Assumes nothing.
+-- "The table as text" in document 01's own words and numbers: what a text must be so that it is a table, and nothing on how it is read. x
+-- is a row, c a content, t are a table's rows. Assumes nothing.
 use mathlib.Core.Path.{_≡_}
 use mathlib.Core.Logic.{_⊎_}
 use mathlib.Core.List.{List, _∷_, _++_}
@@ -33,7 +33,8 @@ pub record IsRow (before : List Row) (x : Row) : Type 0 where
   pub parent : (x .parent ≡ 0) ⊎ (x .parent ∈ numbers before)
   pub content : IsContent (x .content)
 
--- the text is a table with these rows: "zero or more lines, each ended by LF: `number␉parent␉content`", "at most 512 lines and 32,768 bytes"
+-- the text is a table with these rows: "zero or more lines, each ended by LF: `number␉parent␉content`", "at most 512 lines and 32,768
+-- bytes"
 pub record IsTable (text : List ℕ) (t : List Row) : Type 0 where
   pub lines : text ≡ written t
   pub rows : (before : List Row) (x : Row) (after : List Row) → t ≡ before ++ (x ∷ after) → IsRow before x

@@ -1,6 +1,6 @@
--- Codes 1 to 10 in document 01's own words and numbers: when a text is no table, with which code and on which line, and nothing on how it is
--- read. l is a line without its LF, `before` are the rows of the lines before it; n, p and c are its number, parent and content as bytes, k
--- is a number that they write. Assumes nothing.
+-- Codes 1 to 10 in document 01's own words and numbers: when a text is no table, with which code and on which line, and nothing on how it
+-- is read. l is a line without its LF, `before` are the rows of the lines before it; n, p and c are its number, parent and content as
+-- bytes, k is a number that they write. Assumes nothing.
 use mathlib.Core.Path.{_≡_}
 use mathlib.Core.Logic.{_⊎_}
 use mathlib.Core.List.{List, [], _∷_, _++_}
