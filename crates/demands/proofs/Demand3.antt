@@ -37,7 +37,7 @@ module _ (old : List ℕ) (branches : List (List ℕ)) (o : List Row) (bs : List
       let x = content-row t a i in
       subst (λ (b : ContentFact). Writable (b .content)) (x .2) (good-writable t (good (w .0) t (w .1)) (x .0) (x .1))
 
-  answer-writable : (f : Tree) → Answers (factsOf o) (map factsOf bs) f → (x : Row) → x ∈ rows TOP f → Writable (x .content)
+  pub answer-writable : (f : Tree) → Answers (factsOf o) (map factsOf bs) f → (x : Row) → x ∈ rows TOP f → Writable (x .content)
   answer-writable f w x m =
       let listed : contentOf x ∈ map contentOf (rows TOP f) = Memᴰ·map contentOf m in
       let known = w .contents-known (contentOf x) (subst (λ (l : List ContentFact). contentOf x ∈ l) (contents-rows TOP f) listed) in

@@ -1,4 +1,4 @@
--- The demands, over the texts handed in and the bytes written. Begin with OnTheCall.
+-- The demands, over the texts handed in and the bytes written. Begin with OnTheCall; OnCheck and OnTidy state the other two calls.
 pub mod Packing
 pub mod Reading
 pub mod Coded
@@ -8,5 +8,15 @@ pub mod Demand2
 pub mod Demand3
 pub mod Faults
 pub mod Clashes
+pub mod Unread
+pub mod Room
+pub mod LackOfRoom
+pub mod Bounds
+pub mod Lengths
 pub mod OnTheCall
+pub mod OnCheck
+pub mod OnTidy
+pub mod Places
+pub mod Printed
+pub mod Ranges
 pub mod TidyTwice

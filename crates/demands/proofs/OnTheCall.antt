@@ -1,12 +1,13 @@
 -- The three demands on the call of merge: here a visitor begins. `merge` and its export (crates/brooksaddle/src/lib.rt) ask nothing, and
 -- ensure `Merges` of the texts handed in, the five numbers answered and the two lent buffers; what follows holds of every such call. `old`,
--- `first` and `second` are the texts, `table` and `ledger` the buffers before the call; a name with a prime is a buffer after it. What
--- codes 21 to 25 mean is said here in words of facts and edits (rules/specs/Conditions), not by the definitions that compute the merge.
--- Assumes nothing.
+-- `first` and `second` are the texts, `table` and `ledger` the buffers before the call; a name with a prime is a buffer after it. What each
+-- code means is said here in words of texts, facts, edits and lengths (rules/specs/Refusal, Conditions, Room), not by the definitions that
+-- compute the merge. Assumes nothing.
 use mathlib.Core.Path.{_≡_, refl, sym, ap, _∙_, subst}
-use mathlib.Core.Logic.{_↔_}
+use mathlib.Core.Logic.{_⊎_, inl, inr, _↔_}
 use mathlib.Core.List.{List, [], _∷_, map}
 use Prim.Native.Nat.{ℕ, _≤_}
+use native.Mathlib.Omega.{arith}
 use lib.ListN.{length, take, drop}
 use lib.Seq.{take-append-seam}
 use Rattle.rules.specs.Codes.{accepted}
@@ -15,6 +16,7 @@ use Rattle.rules.specs.Line.{Row}
 use Rattle.rules.specs.Table.{Verdict, readable, unreadable, verdict}
 use Rattle.rules.specs.Tree.{Tree, rows, treeOf}
 use Rattle.rules.specs.Facts.{Facts, factsOf}
+use Rattle.rules.specs.Merge.{refused, merge}
 use Rattle.rules.specs.Written.{writtenTree, over}
 use Rattle.rules.specs.Ledger.{Entry, entriesOf, ledger as ledgerOf}
 use Rattle.rules.specs.Calls.{Outcome, done, mergeOutcome, answerOf, told, tableAfter, ledgerAfter}
@@ -22,17 +24,25 @@ use Rattle.rules.specs.Promises.{Merges}
 use Rattle.rules.specs.Demands.{Within, Tables, Answered, tradedOutcome}
 use Rattle.rules.specs.Conditions.{BrokenList, ContentClash, LostEdit, Names, NeighbourClash, Nowhere, ParentClash, RecordOf, Refusal}
 use Rattle.rules.specs.Conditions.{TopOrRecordOf}
+use Rattle.rules.specs.ReadableText.{IsTable}
+use Rattle.rules.specs.Refusal.{Refused}
+use Rattle.rules.specs.Room.{TooLarge, Sized, TableTooLong, LedgerTooLong}
 use Rattle.rules.specs.declared.answers.Merged.{Merged}
 use Rattle.rules.proofs.Settled.{merge-settled}
+use Rattle.readback.proofs.ReadableText.{readable-exactly}
+use Rattle.readback.proofs.RefusedText.{refused-exactly}
 use Rattle.demands.proofs.Reading.{old-unread, branch-unread, done-read}
 use Rattle.demands.proofs.Coded.{texts-coded, zero-done}
 use Rattle.demands.proofs.Swapping.{traded-answer, traded-table}
 use Rattle.demands.proofs.Demand1.{merge-refused}
 use Rattle.demands.proofs.Demand2.{merged-back}
-use Rattle.demands.proofs.Demand3.{done-answered, answered-done, one-tree, swapped}
+use Rattle.demands.proofs.Demand3.{answer-writable, done-answered, answered-done, one-tree, swapped}
 use Rattle.demands.proofs.Faults.{late-read}
 use Rattle.demands.proofs.Clashes.{broken-named, content-named, lost-named, neighbour-named, one-read, parent-named, place-named}
 use Rattle.demands.proofs.Clashes.{record-named, refusal-exactly}
+use Rattle.demands.proofs.Room.{clash-ends}
+use Rattle.demands.proofs.LackOfRoom.{large-exactly, large-told, table-exactly, table-told, ledger-exactly, ledger-told}
+use Rattle.demands.proofs.Lengths.{Limited, all-limited, were-read, table-fits, ledger-fits}
 
 -- what an accepted call has written: this tree, with these entries in the ledger
 pub record Wrote (table ledger : List ℕ) (answer : Merged) (table′ ledger′ : List ℕ) (f : Tree) (es : List Entry) : Type 0 where
@@ -221,3 +231,117 @@ module _ (old first second table ledger : List ℕ) (answer answer′ : Merged) 
     turned .tabled ∙ ap (λ (x : Outcome). tableAfter x table) swap ∙ traded-table outcome table ∙ sym (call .tabled),
     turned .ledgered ∙ ap (λ (x : Outcome). ledgerAfter x ledger) swap,
   )
+
+-- ---- the tables of three texts, in document 01's words
+
+pub tables-are : (old first second : List ℕ) (o f s : List Row) → IsTable old o → IsTable first f → IsTable second s
+    → Tables old (first ∷ second ∷ []) o (f ∷ s ∷ [])
+tables-are old first second o f s p q r =
+    record {
+      old-read = readable-exactly old o .1 p;
+      branches-read = λ i. readable-exactly first f .1 q i ∷ readable-exactly second s .1 r i ∷ [];
+    }
+
+-- ---- lack of room: 26, 31 and 32 are told exactly if the tree that answers lacks that room, and the lengths told are those needed
+
+module _ (old first second table ledger : List ℕ) (answer : Merged) (table′ ledger′ : List ℕ)
+    (call : Merges old first second table ledger answer table′ ledger′) where
+  module _ (o : List Row) (bs : List (List Row)) (read : Tables old (first ∷ second ∷ []) o bs) where
+    -- "merged table over 512 records or 32,768 bytes"
+    pub room-26 : (answer .code ≡ 26) ↔ ((f : Tree) × TooLarge o bs f)
+    room-26 = large-exactly old (first ∷ second ∷ []) o bs read (length table) (length ledger) answer (call .answered)
+
+    pub room-26-told : (f : Tree) → TooLarge o bs f → answer ≡ told 26 0 0 0 0
+    room-26-told = large-told old (first ∷ second ∷ []) o bs read (length table) (length ledger) answer (call .answered)
+
+    -- "table buffer too short"
+    pub room-31 : (answer .code ≡ 31) ↔ ((f : Tree) × TableTooLong o bs (length table) f)
+    room-31 = table-exactly old (first ∷ second ∷ []) o bs read (length table) (length ledger) answer (call .answered)
+
+    pub room-31-told : (f : Tree) → TableTooLong o bs (length table) f
+        → answer ≡ told 31 0 0 (length (writtenTree f)) (length (ledgerOf (entriesOf o bs f)))
+    room-31-told = table-told old (first ∷ second ∷ []) o bs read (length table) (length ledger) answer (call .answered)
+
+    -- "ledger buffer too short"
+    pub room-32 : (answer .code ≡ 32) ↔ ((f : Tree) × LedgerTooLong o bs (length table) (length ledger) f)
+    room-32 = ledger-exactly old (first ∷ second ∷ []) o bs read (length table) (length ledger) answer (call .answered)
+
+    pub room-32-told : (f : Tree) → LedgerTooLong o bs (length table) (length ledger) f
+        → answer ≡ told 32 0 0 (length (writtenTree f)) (length (ledgerOf (entriesOf o bs f)))
+    room-32-told = ledger-told old (first ∷ second ∷ []) o bs read (length table) (length ledger) answer (call .answered)
+
+    -- a clash is told with its code and place, with table 0 and no lengths
+    pub clash-told : (code place : ℕ) → merge (factsOf o) (map factsOf bs) ≡ refused code place → answer ≡ told code 0 place 0 0
+    clash-told code place m =
+        call .answered ∙ ap answerOf (clash-ends old (first ∷ second ∷ []) o bs read (length table) (length ledger) code place m)
+
+  -- "An unreadable table is refused with table, line and fault", each in document 01's words: the first of old, first and second
+
+  pub unread-old : (code line : ℕ) → Refused old code line → answer ≡ told code 1 line 0 0
+  unread-old code line u =
+      demand1-old old first second table ledger answer table′ ledger′ call code line (refused-exactly old code line .1 u)
+
+  pub unread-first : (o : List Row) (code line : ℕ) → IsTable old o → Refused first code line → answer ≡ told code 2 line 0 0
+  unread-first o code line p u =
+      demand1-first old first second table ledger answer table′ ledger′ call o code line (readable-exactly old o .1 p)
+      (refused-exactly first code line .1 u)
+
+  pub unread-second : (o f : List Row) (code line : ℕ) → IsTable old o → IsTable first f → Refused second code line
+      → answer ≡ told code 3 line 0 0
+  unread-second o f code line p q u =
+      demand1-second old first second table ledger answer table′ ledger′ call o f code line (readable-exactly old o .1 p)
+      (readable-exactly first f .1 q) (refused-exactly second code line .1 u)
+
+  -- whatever the texts: the lengths told, and the room that is always enough. Document 01's buffers hold 32,768 and 8,192 bytes.
+
+  pub lengths-limited : Limited answer
+  lengths-limited = all-limited old first second (length table) (length ledger) answer (call .answered)
+
+  pub never-31 : 32768 ≤ length table → answer .code ≡ 31 → ⊥
+  never-31 = table-fits old first second (length table) (length ledger) answer (call .answered)
+
+  pub never-32 : 8192 ≤ length ledger → answer .code ≡ 32 → ⊥
+  never-32 h = ledger-fits old first second (length table) (length ledger) answer (call .answered) (omega arith)
+
+  -- another call on the same texts, with the lengths that 31 or 32 told, is accepted and writes so many bytes
+  module _ (short : (answer .code ≡ 31) ⊎ (answer .code ≡ 32)) (table₂ ledger₂ : List ℕ) (answer₂ : Merged) (table₂′ ledger₂′ : List ℕ)
+      (call₂ : Merges old first second table₂ ledger₂ answer₂ table₂′ ledger₂′)
+      (table-room : answer .«table_length» ≤ length table₂) (ledger-room : answer .«ledger_length» ≤ length ledger₂) where
+    abbrev Written : Type 0
+    Written = (f : Tree) × (es : List Entry) × Wrote table₂ ledger₂ answer₂ table₂′ ledger₂′ f es
+        × (answer₂ ≡ told 0 0 0 (answer .«table_length») (answer .«ledger_length»))
+
+    sized-written : (code : ℕ) (o : List Row) (bs : List (List Row)) → Tables old (first ∷ second ∷ []) o bs → (f : Tree) → Sized o bs f
+        → answer ≡ told code 0 0 (length (writtenTree f)) (length (ledgerOf (entriesOf o bs f))) → Written
+    sized-written code o bs read f sized e =
+        let p : answer .«table_length» ≡ length (writtenTree f) = ap (λ (m : Merged). m .«table_length») e in
+        let q : answer .«ledger_length» ≡ length (ledgerOf (entriesOf o bs f)) = ap (λ (m : Merged). m .«ledger_length») e in
+        let contents = answer-writable old (first ∷ second ∷ []) o bs read f (sized .answers) in
+        let within : Within f = record {
+          tree = sized .answers .tree;
+          contents = contents;
+          few = sized .few;
+          short = sized .short;
+        } in
+        let fits : Answered o bs (length table₂) (length ledger₂) f = record {
+          answers = sized .answers;
+          within = within;
+          table-room = omega (arith, p);
+          ledger-room = omega (arith, q);
+        } in
+        let w = demand3-written old first second table₂ ledger₂ answer₂ table₂′ ledger₂′ call₂ o bs read f fits in
+        (f, entriesOf o bs f, w, w .answer-is ∙ λ i. told 0 0 0 (sym p i) (sym q i))
+
+    pub room-enough : (f : Tree) × (es : List Entry) × Wrote table₂ ledger₂ answer₂ table₂′ ledger₂′ f es
+        × (answer₂ ≡ told 0 0 0 (answer .«table_length») (answer .«ledger_length»))
+    room-enough = go short
+      where
+        go : (answer .code ≡ 31) ⊎ (answer .code ≡ 32) → Written
+        go (inl z) =
+            let r = were-read old first second (length table) (length ledger) answer (call .answered) (omega arith) in
+            let w = room-31 (r .0) (r .1) (r .2) .0 z in
+            sized-written 31 (r .0) (r .1) (r .2) (w .0) (w .1 .sized) (room-31-told (r .0) (r .1) (r .2) (w .0) (w .1))
+        go (inr z) =
+            let r = were-read old first second (length table) (length ledger) answer (call .answered) (omega arith) in
+            let w = room-32 (r .0) (r .1) (r .2) .0 z in
+            sized-written 32 (r .0) (r .1) (r .2) (w .0) (w .1 .sized) (room-32-told (r .0) (r .1) (r .2) (w .0) (w .1))

@@ -16,11 +16,12 @@ use Rattle.rules.specs.Calls.{fiveNumbers, shown}
 use Rattle.rules.specs.Promises.{Merges}
 use Rattle.rules.specs.declared.answers.Merged.{Merged}
 use Rattle.demands.proofs.Coded.{texts-coded, zero-done}
+use Rattle.demands.proofs.Lengths.{Limited, all-limited}
 use Rattle.bytes.specs.Put.{Put, numberField}
 use Rattle.bytes.proofs.Puts.{put-then, put-over}
 use Rattle.ledger.specs.Entries.{lineEnd}
 use Rattle.demonstration.specs.Printed.{tableRoom, ledgerRoom, printedRoom, numbersLength, printed, Shows}
-use Rattle.demonstration.proofs.Lengths.{Bounded, texts-bounded, numbers-few, numbers-long}
+use Rattle.demonstration.proofs.Lengths.{numbers-few, numbers-long}
 
 -- ---- the line
 
@@ -75,24 +76,14 @@ module _ (old first second t l : List ℕ) (m : Merged) (t′ l′ : List ℕ) (
   answered : m ≡ answerOf end
   answered = call .answered ∙ ap answerOf is
 
-  small-of : (e : Outcome) → Bounded tableRoom ledgerRoom e
-      → (answerOf e .«table_length» < 4294967296) × (answerOf e .«ledger_length» < 4294967296)
-  small-of (notRead table code line) h = (omega arith, omega arith)
-  small-of (clash code place) h = (omega arith, omega arith)
-  small-of tooLarge h = (omega arith, omega arith)
-  small-of (noRoom code tableLength ledgerLength) h = (omega (arith, h .0), omega (arith, h .1))
-  small-of (done table es) h = (omega (arith, h .0), omega (arith, h .1))
-
-  small : (m .«table_length» < 4294967296) × (m .«ledger_length» < 4294967296)
-  small =
-      subst (λ (x : Merged). (x .«table_length» < 4294967296) × (x .«ledger_length» < 4294967296)) (sym answered)
-      (small-of end (texts-bounded tableRoom ledgerRoom old (first ∷ second ∷ [])))
+  limited : Limited m
+  limited = all-limited old first second tableRoom ledgerRoom m answered
 
   pub table-small : m .«table_length» < 4294967296
-  table-small = small .0
+  table-small = omega (arith, limited .table)
 
   pub ledger-small : m .«ledger_length» < 4294967296
-  ledger-small = small .1
+  ledger-small = omega (arith, limited .ledger)
 
   pub numbers-room : (n : ℕ) → printedRoom ≤ n → numbersLength m ≤ n
   numbers-room n h = omega (arith, h, numbers-few m)
@@ -120,9 +111,6 @@ module _ (old first second t l : List ℕ) (m : Merged) (t′ l′ : List ℕ) (
     ended =
         zero-done end (texts-coded old (first ∷ second ∷ []) tableRoom ledgerRoom) (sym (ap (λ (x : Merged). x .code) answered) ∙ z)
 
-    fits : (table : List ℕ) (es : List Entry) → end ≡ done table es → (length table ≤ tableRoom) × (length (ledger es) ≤ ledgerRoom)
-    fits table es d = subst (Bounded tableRoom ledgerRoom) d (texts-bounded tableRoom ledgerRoom old (first ∷ second ∷ []))
-
     table-is : (m .«table_length» ≡ length (ended .0)) × (t′ ≡ over (ended .0) t)
     table-is = (
       ap (λ (x : Merged). x .«table_length») (answered ∙ ap answerOf (ended .2)),
@@ -136,10 +124,10 @@ module _ (old first second t l : List ℕ) (m : Merged) (t′ l′ : List ℕ) (
     )
 
     table-low : m .«table_length» ≤ tableRoom
-    table-low = omega (arith, fits (ended .0) (ended .1) (ended .2) .0, table-is .0)
+    table-low = limited .table
 
     ledger-low : m .«ledger_length» ≤ ledgerRoom
-    ledger-low = omega (arith, fits (ended .0) (ended .1) (ended .2) .1, ledger-is .0)
+    ledger-low = omega (arith, limited .ledger)
 
     -- what was written lies in its buffer
     pub table-fits : m .«table_length» ≤ length t′

@@ -18,6 +18,7 @@ use Rattle.trees.proofs.OneTable.{row-number}
 use Rattle.trees.proofs.Trees.{numbers-rows}
 use Rattle.trees.proofs.SameRows.{rows-in}
 use Rattle.readback.proofs.ReadBack.{written-length}
+use Rattle.readback.proofs.Entries.{entry-length}
 use Rattle.facts.specs.Memory.{NUMBER, LENGTH, lineAt, fieldOn, field}
 use Rattle.facts.specs.Holds.{Holds}
 use Rattle.facts.specs.Order.{numbersTo, InWrittenOrder}
@@ -25,7 +26,7 @@ use Rattle.facts.proofs.Shown.{row-parent-field}
 use Rattle.ledger.specs.declared.Sums.{Sums}
 use Rattle.ledger.specs.Entries.{entryOn, entriesTo, bytesIn, LedgerReady}
 use Rattle.ledger.specs.Sums.{frameLine, ledgerLine, lineBytes, sumTo, totalLength, sumsOf}
-use Rattle.ledger.proofs.Lines.{entry-length, total-length}
+use Rattle.ledger.proofs.Lines.{total-length}
 use Rattle.ledger.proofs.Going.{writtenTo, next-length, entries-count}
 
 -- ---- sums

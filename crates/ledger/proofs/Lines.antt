@@ -4,14 +4,14 @@ use mathlib.Core.Path.{_≡_, sym, ap, _∙_, subst}
 use mathlib.Core.List.{List, [], _∷_, _++_}
 use Prim.Native.Nat.{ℕ, _+_, _≤_}
 use native.Mathlib.Omega.{arith}
-use lib.ListN.{length, set, length-append}
+use lib.ListN.{length, set}
 use lib.Seq.{append-snoc}
 use borrow.Author.Needs.{needs}
 use Rattle.rules.specs.Quoted.{bytes}
 use Rattle.rules.specs.Text.{TAB, LF}
 use Rattle.rules.specs.Written.{digits, width}
 use Rattle.rules.specs.Ledger.{Entry, entryLine}
-use Rattle.readback.proofs.Decimals.{digits-length}
+use Rattle.readback.proofs.Entries.{end-length, entry-length}
 use Rattle.facts.specs.Memory.{NUMBER, PLACE, LENGTH, originOf, fieldOn}
 use Rattle.bytes.specs.Put.{Put, numberField}
 use Rattle.bytes.proofs.Puts.{put-then, put-byte}
@@ -19,16 +19,6 @@ use Rattle.ledger.specs.Entries.{entryOn, lineEnd, totalOf}
 use Rattle.ledger.specs.Sums.{totalLength}
 
 -- ---- how long
-
-end-length : (a b : ℕ) → length (lineEnd a b) ≡ 2 + width a + width b
-end-length a b =
-    length-append (digits a) (TAB ∷ (digits b ++ (LF ∷ [])))
-    ∙ omega (arith, length-append (digits b) (LF ∷ []), digits-length a, digits-length b)
-
-pub entry-length : (e : Entry) → length (entryLine e) ≡ 3 + width (e .number) + width (e .origin) + width (e .bytes)
-entry-length e =
-    length-append (digits (e .number)) (TAB ∷ lineEnd (e .origin) (e .bytes))
-    ∙ omega (arith, end-length (e .origin) (e .bytes), digits-length (e .number))
 
 pub total-length : (a b : ℕ) → length (totalOf a b) ≡ totalLength a b
 total-length a b = omega (arith, end-length a b)

@@ -72,7 +72,7 @@ pub text-readable : (text : List ℕ) (t : List Row) → AcceptedText text t →
 text-readable text t a =
     rw (le-ltb BYTES (length text) (a .short), a .whole) (lines-read [] (lines text) (a .faultless) ∙ ap readable (sym (a .rows)))
 
-faultless-good : (seen : List Row) (ls : List (List ℕ)) → Faultless seen ls → Good seen (map rowOf ls)
+pub faultless-good : (seen : List Row) (ls : List (List ℕ)) → Faultless seen ls → Good seen (map rowOf ls)
 faultless-good seen [] f = tt
 faultless-good seen (l ∷ ls) f = (fault-follows seen l (f .0), faultless-good (seen ++ (rowOf l ∷ [])) ls (f .1))
 

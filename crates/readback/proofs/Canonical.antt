@@ -44,7 +44,7 @@ module _ (l : List ℕ) (k : KeepsRules l) where
       ∙ ap (λ (s : List ℕ). numberPart l ++ (TAB ∷ (s ++ (TAB ∷ contentPart l)))) parent-digits
       ∙ ap (λ (s : List ℕ). numberPart l ++ (TAB ∷ s)) (sym second-tab) ∙ sym first-tab
 
-lines-canonical : (seen : List Row) (ls : List (List ℕ)) → Faultless seen ls → written (map rowOf ls) ≡ joined ls
+pub lines-canonical : (seen : List Row) (ls : List (List ℕ)) → Faultless seen ls → written (map rowOf ls) ≡ joined ls
 lines-canonical seen [] f = refl
 lines-canonical seen (l ∷ ls) f =
     ap (λ (s : List ℕ). endedLine s ++ written (map rowOf ls)) (line-canonical l (fault-rules seen l (f .0)))

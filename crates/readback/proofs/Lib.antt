@@ -2,11 +2,17 @@
 -- trees, tidy, and the parts told for contents.
 pub mod Splitting
 pub mod Decimals
+pub mod Contents
 pub mod Following
 pub mod Faults
+pub mod LineFaults
 pub mod Accepting
+pub mod Refusing
 pub mod ReadBack
 pub mod Canonical
+pub mod ReadableText
+pub mod RefusedText
 pub mod TreesBack
 pub mod Tidying
 pub mod Parts
+pub mod Entries

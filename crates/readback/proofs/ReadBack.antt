@@ -39,7 +39,7 @@ every-allowed (x ∷ s) t =
     let a = and-yes (digit x) (every digit s) t in
     yes-and (allowed x) (every allowed s) (digit-allowed x (a .0)) (every-allowed s (a .1))
 
-digits-allowed : (n : ℕ) → T (every allowed (digits n))
+pub digits-allowed : (n : ℕ) → T (every allowed (digits n))
 digits-allowed n = every-allowed (digits n) (digits-every n)
 
 -- ---- one line
@@ -101,13 +101,13 @@ pub written-joined : (t : List Row) → written t ≡ joined (map body t)
 written-joined [] = refl
 written-joined (x ∷ t) = ap (λ (s : List ℕ). line x ++ s) (written-joined t)
 
-bodies-faultless : (seen t : List Row) → Good seen t → Faultless seen (map body t)
+pub bodies-faultless : (seen t : List Row) → Good seen t → Faultless seen (map body t)
 bodies-faultless seen [] g = tt
 bodies-faultless seen (x ∷ t) g =
     let rest : Faultless (seen ++ (x ∷ [])) (map body t) = bodies-faultless (seen ++ (x ∷ [])) t (g .1) in
     (body-fault x seen (g .0), subst (λ (y : Row). Faultless (seen ++ (y ∷ [])) (map body t)) (sym (row-back x seen (g .0))) rest)
 
-bodies-rows : (seen t : List Row) → Good seen t → map rowOf (map body t) ≡ t
+pub bodies-rows : (seen t : List Row) → Good seen t → map rowOf (map body t) ≡ t
 bodies-rows seen [] g = refl
 bodies-rows seen (x ∷ t) g = rw (row-back x seen (g .0)) (ap (λ (r : List Row). x ∷ r) (bodies-rows (seen ++ (x ∷ [])) t (g .1)))
 

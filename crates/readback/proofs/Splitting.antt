@@ -80,6 +80,12 @@ count-after b (x ∷ s) =
     let ih : count b s ≤ suc (count b (after b s)) = count-after b s in
     elim (eqb x b) as (λ u. cond u (suc (count b s)) (count b s) ≤ suc (count b (cond u s (after b s)))) [ true ↦ omega arith | false ↦ ih ]
 
+pub count-le : (x : ℕ) (s : List ℕ) → count x s ≤ length s
+count-le x [] = omega arith
+count-le x (y ∷ s) =
+    let ih : count x s ≤ length s = count-le x s in
+    elim (eqb y x) as (λ t. cond t (suc (count x s)) (count x s) ≤ suc (length s)) [ true ↦ omega arith | false ↦ omega arith ]
+
 -- ---- where the parts lie
 
 pub after-le : (b : ℕ) (s : List ℕ) → length (after b s) ≤ length s
@@ -161,7 +167,7 @@ endedLine l = l ++ (LF ∷ [])
 abbrev pub joined : List (List ℕ) → List ℕ
 joined ls = flat endedLine ls
 
-last-append : (x : ℕ) (s t : List ℕ) → last x (s ++ t) ≡ last (last x s) t
+pub last-append : (x : ℕ) (s t : List ℕ) → last x (s ++ t) ≡ last (last x s) t
 last-append x [] t = refl
 last-append x (y ∷ s) t = last-append y s t
 
@@ -173,7 +179,7 @@ last-joined (l ∷ ls) =
 pub joined-ended : (ls : List (List ℕ)) → ended (joined ls) ≡ true
 joined-ended ls = rw (last-joined ls)
 
-lines-at : (s t : List ℕ) → (LF ∈ s → ⊥) → lines (s ++ (LF ∷ t)) ≡ s ∷ lines t
+pub lines-at : (s t : List ℕ) → (LF ∈ s → ⊥) → lines (s ++ (LF ∷ t)) ≡ s ∷ lines t
 lines-at [] t f = refl
 lines-at (x ∷ s) t f = rw (ne-eqb x LF (λ e. f (here (sym e)))) (ap (onto x) (lines-at s t (λ m. f (there m))))
 

@@ -7,7 +7,8 @@
 --     Lettered trees                proofs/Lettered
 --     Slips to rule out             must-fail/
 --     Promises                      Promises, proofs/Settled
--- and what the three demands speak of stands in Demands. Lists and Quoted are words that the others use.
+-- and what the three demands speak of stands in Demands and Room. ReadableText and Refusal say in document 01's own words, with its numbers
+-- and nothing on how a text is read, what a table is and what a refusal. Lists and Quoted are words that the others use.
 pub mod Limits
 pub mod Codes
 pub mod Lists
@@ -25,3 +26,6 @@ pub mod Calls
 pub mod Promises
 pub mod Demands
 pub mod Conditions
+pub mod Room
+pub mod ReadableText
+pub mod Refusal

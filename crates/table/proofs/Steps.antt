@@ -1,20 +1,20 @@
 -- The reading of lines, way by way, as the code goes. text is the table's bytes, ls and fs are the two arrays, c is the count of lines
 -- so far, l what is told of the line at the place reached, code its fault; a prime marks the arrays with one line more. Assumes nothing.
 use mathlib.Core.Path.{_≡_, sym, ap, _∙_, subst}
-use mathlib.Core.Bool.{Bool, true, false, cond, not}
-use mathlib.Core.List.{List, [], _∷_}
-use Prim.Native.Nat.{ℕ, suc, _+_, _-_, _<_, _≤_}
+use mathlib.Core.Bool.{Bool, true, false, not}
+use mathlib.Core.List.{List, []}
+use Prim.Native.Nat.{ℕ, _+_, _-_, _<_, _≤_}
 use native.Mathlib.Omega.{arith}
 use mir.Val.{Fits}
 use mir.Syntax.{w32, w64}
 use lib.ListN.{length, drop, getD, set}
 use lib.Seq.{getD-set-same, getD-set-other}
-use lib.Dec.{eqb}
 use borrow.Author.Needs.{needs}
 use borrow.Author.Tests.{not-true, not-false}
 use Rattle.rules.specs.Limits.{BYTES}
 use Rattle.rules.specs.Codes.{accepted, textTooLong, unended}
 use Rattle.rules.specs.Text.{LF, count, ended}
+use Rattle.readback.proofs.Splitting.{count-le}
 use Rattle.facts.specs.Memory.{TABLES, NUMBERS, ROOM, LAST, field, addLine, addFacts, noLines, noFacts, opened}
 use Rattle.line.specs.declared.Line.{Line}
 use Rattle.line.specs.Told.{nextLine}
@@ -70,12 +70,6 @@ module _ (text ls fs : List ℕ) (place c code : ℕ) (l : Line) (g : Reading te
 
 pub long-text : (text ls fs : List ℕ) (r : Read) → BYTES < length text → r ≡ told textTooLong 0 0 → Reads text ls fs r
 long-text text ls fs r h e = subst (Reads text ls fs) (sym e) (too-long text ls fs h)
-
-count-le : (x : ℕ) (s : List ℕ) → count x s ≤ length s
-count-le x [] = omega arith
-count-le x (y ∷ s) =
-    let ih : count x s ≤ length s = count-le x s in
-    elim (eqb y x) as (λ t. cond t (suc (count x s)) (count x s) ≤ suc (length s)) [ true ↦ omega arith | false ↦ omega arith ]
 
 pub ends-fit : (text : List ℕ) (n : ℕ) → length text ≤ BYTES → n ≡ count LF text → Fits w64 (n + 1)
 ends-fit text n h e = record { fits = omega (arith, e, count-le LF text) }

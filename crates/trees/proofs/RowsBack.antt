@@ -57,7 +57,7 @@ rows-readable f t = record { distinct = tree-distinct f t; rooted = rooted-rows 
 -- ---- the tree back
 
 -- a position fact's parent is that of the first list, or a record of the tree
-position-parent : (r p : ℕ) (f : Tree) (a : PositionFact) → a ∈ treePositions r p f → a .parent ∈ r ∷ numbersIn f
+pub position-parent : (r p : ℕ) (f : Tree) (a : PositionFact) → a ∈ treePositions r p f → a .parent ∈ r ∷ numbersIn f
 position-parent r p empty a (here e) = here (ap parentOf e)
 position-parent r p empty a (there m) = absurd (List·Memᴰ·not-nil m)
 position-parent r p (node n c below after) a (here e) = here (ap parentOf e)
