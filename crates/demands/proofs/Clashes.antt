@@ -29,6 +29,7 @@ use Rattle.trees.proofs.Naming.{refusal-place, refusal-record}
 use Rattle.demands.proofs.Packing.{ending}
 use Rattle.demands.proofs.Reading.{read-merged}
 use Rattle.demands.proofs.Demand3.{all-readable}
+use Rattle.demands.proofs.Room.{clash-ends}
 
 -- ---- a merged tree is never told with one of these codes
 
@@ -59,10 +60,7 @@ module _ (old : List ℕ) (branches : List (List ℕ)) (o : List Row) (bs : List
   ok = all-readable old branches o bs read
 
   refusal-answer : (code n : ℕ) → Refusal O B code n → answer ≡ told code 0 n 0 0
-  unfolding mergeTables
-  refusal-answer code n w =
-      answered
-      ∙ ap answerOf (read-merged old branches o bs read a b ∙ ap (λ (r : Result). judged r pack) (refused-exactly o bs ok code n .1 w))
+  refusal-answer code n w = answered ∙ ap answerOf (clash-ends old branches o bs read a b code n (refused-exactly o bs ok code n .1 w))
 
   some-refusal : (code : ℕ) → contentClash ≤ code → code ≤ lostEdit → answer .code ≡ code → Somewhere (Refusal O B code)
   unfolding mergeTables

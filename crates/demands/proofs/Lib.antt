@@ -6,10 +6,9 @@ pub mod Swapping
 pub mod Demand1
 pub mod Demand2
 pub mod Demand3
-pub mod Faults
-pub mod Clashes
 pub mod Unread
 pub mod Room
+pub mod Clashes
 pub mod LackOfRoom
 pub mod Bounds
 pub mod Lengths

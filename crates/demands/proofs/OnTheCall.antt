@@ -3,10 +3,10 @@
 -- `first` and `second` are the texts, `table` and `ledger` the buffers before the call; a name with a prime is a buffer after it. What each
 -- code means is said here in words of texts, facts, edits and lengths (rules/specs/Refusal, Conditions, Room), not by the definitions that
 -- compute the merge. Assumes nothing.
-use mathlib.Core.Path.{_≡_, refl, sym, ap, _∙_, subst}
+use mathlib.Core.Path.{_≡_, refl, sym, ap, _∙_}
 use mathlib.Core.Logic.{_⊎_, inl, inr, _↔_}
 use mathlib.Core.List.{List, [], _∷_, map}
-use Prim.Native.Nat.{ℕ, _≤_}
+use Prim.Native.Nat.{ℕ, _<_, _≤_}
 use native.Mathlib.Omega.{arith}
 use lib.ListN.{length, take, drop}
 use lib.Seq.{take-append-seam}
@@ -16,7 +16,6 @@ use Rattle.rules.specs.Line.{Row}
 use Rattle.rules.specs.Table.{Verdict, readable, unreadable, verdict}
 use Rattle.rules.specs.Tree.{Tree, rows, treeOf}
 use Rattle.rules.specs.Facts.{Facts, factsOf}
-use Rattle.rules.specs.Merge.{refused, merge}
 use Rattle.rules.specs.Written.{writtenTree, over}
 use Rattle.rules.specs.Ledger.{Entry, entriesOf, ledger as ledgerOf}
 use Rattle.rules.specs.Calls.{Outcome, done, mergeOutcome, answerOf, told, tableAfter, ledgerAfter}
@@ -37,10 +36,8 @@ use Rattle.demands.proofs.Swapping.{traded-answer, traded-table}
 use Rattle.demands.proofs.Demand1.{merge-refused}
 use Rattle.demands.proofs.Demand2.{merged-back}
 use Rattle.demands.proofs.Demand3.{answer-writable, done-answered, answered-done, one-tree, swapped}
-use Rattle.demands.proofs.Faults.{late-read}
 use Rattle.demands.proofs.Clashes.{broken-named, content-named, lost-named, neighbour-named, one-read, parent-named, place-named}
 use Rattle.demands.proofs.Clashes.{record-named, refusal-exactly}
-use Rattle.demands.proofs.Room.{clash-ends}
 use Rattle.demands.proofs.LackOfRoom.{large-exactly, large-told, table-exactly, table-told, ledger-exactly, ledger-told}
 use Rattle.demands.proofs.Lengths.{Limited, all-limited, were-read, table-fits, ledger-fits}
 
@@ -102,11 +99,13 @@ module _ (old first second table ledger : List ℕ) (answer : Merged) (table′ 
       ∙ ap answerOf (branch-unread old o p (first ∷ []) (f ∷ []) (ap (λ (v : Verdict). v ∷ []) q) second code line u []
       (length table) (length ledger))
 
-  -- "A clash names its kind and one record, or the top": codes 21 to 25 are told of readable tables, exactly if the condition that
-  -- specs/Conditions has for the code holds and none before it does, with the least place where it holds. O and B are the tables' facts.
+  -- codes above 10 are told of readable tables
 
-  pub demand1-read : 21 ≤ answer .code → (o : List Row) × (bs : List (List Row)) × Tables old branches o bs
-  demand1-read h = late-read old branches (length table) (length ledger) (subst (λ (n : ℕ). 21 ≤ n) code-is h)
+  pub demand1-read : 10 < answer .code → (o : List Row) × (bs : List (List Row)) × Tables old branches o bs
+  demand1-read = were-read old first second (length table) (length ledger) answer (call .answered)
+
+  -- "A clash names its kind and one record, or the top": codes 21 to 25 are told exactly if the condition that specs/Conditions has for the
+  -- code holds and none before it does, with the least place where it holds. O and B are the tables' facts.
 
   module _ (o : List Row) (bs : List (List Row)) (read : Tables old branches o bs) where
     abbrev O : Facts
@@ -270,11 +269,6 @@ module _ (old first second table ledger : List ℕ) (answer : Merged) (table′ 
         → answer ≡ told 32 0 0 (length (writtenTree f)) (length (ledgerOf (entriesOf o bs f)))
     room-32-told = ledger-told old (first ∷ second ∷ []) o bs read (length table) (length ledger) answer (call .answered)
 
-    -- a clash is told with its code and place, with table 0 and no lengths
-    pub clash-told : (code place : ℕ) → merge (factsOf o) (map factsOf bs) ≡ refused code place → answer ≡ told code 0 place 0 0
-    clash-told code place m =
-        call .answered ∙ ap answerOf (clash-ends old (first ∷ second ∷ []) o bs read (length table) (length ledger) code place m)
-
   -- "An unreadable table is refused with table, line and fault", each in document 01's words: the first of old, first and second
 
   pub unread-old : (code line : ℕ) → Refused old code line → answer ≡ told code 1 line 0 0
@@ -338,10 +332,10 @@ module _ (old first second table ledger : List ℕ) (answer : Merged) (table′ 
       where
         go : (answer .code ≡ 31) ⊎ (answer .code ≡ 32) → Written
         go (inl z) =
-            let r = were-read old first second (length table) (length ledger) answer (call .answered) (omega arith) in
+            let r = demand1-read old first second table ledger answer table′ ledger′ call (omega arith) in
             let w = room-31 (r .0) (r .1) (r .2) .0 z in
             sized-written 31 (r .0) (r .1) (r .2) (w .0) (w .1 .sized) (room-31-told (r .0) (r .1) (r .2) (w .0) (w .1))
         go (inr z) =
-            let r = were-read old first second (length table) (length ledger) answer (call .answered) (omega arith) in
+            let r = demand1-read old first second table ledger answer table′ ledger′ call (omega arith) in
             let w = room-32 (r .0) (r .1) (r .2) .0 z in
             sized-written 32 (r .0) (r .1) (r .2) (w .0) (w .1 .sized) (room-32-told (r .0) (r .1) (r .2) (w .0) (w .1))
