@@ -15,7 +15,6 @@ pub mod Lengths
 pub mod OnTheCall
 pub mod OnCheck
 pub mod OnTidy
-pub mod Places
 pub mod Printed
 pub mod Ranges
 pub mod TidyTwice

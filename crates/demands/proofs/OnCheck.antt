@@ -13,21 +13,21 @@ use Rattle.rules.specs.Tree.{treeOf}
 use Rattle.rules.specs.Calls.{checked, checkAnswer}
 use Rattle.rules.specs.Promises.{Checks}
 use Rattle.rules.specs.ReadableText.{IsTable}
-use Rattle.rules.specs.Refusal.{Refused}
+use Rattle.rules.specs.UnreadableText.{Refused}
 use Rattle.rules.specs.declared.answers.Checked.{Checked}
 use Rattle.trees.proofs.Deepest.{height, deepest}
 use Rattle.readback.proofs.Following.{good-readable}
 use Rattle.readback.proofs.Accepting.{good, refused-code}
 use Rattle.readback.proofs.ReadableText.{readable-exactly as exactly}
-use Rattle.readback.proofs.RefusedText.{refused-exactly as words}
+use Rattle.readback.proofs.UnreadableText.{unreadable-exactly as words}
 
 -- a text is read, with these rows, exactly if it is a table with these rows in document 01's words
 pub readable-exactly : (text : List ℕ) (t : List Row) → (verdict text ≡ readable t) ↔ IsTable text t
 readable-exactly = exactly
 
 -- and it is refused, with this code on this line, exactly if document 01's words give it that code there
-pub refused-exactly : (text : List ℕ) (code line : ℕ) → (verdict text ≡ unreadable code line) ↔ Refused text code line
-refused-exactly = words
+pub unreadable-exactly : (text : List ℕ) (code line : ℕ) → (verdict text ≡ unreadable code line) ↔ Refused text code line
+unreadable-exactly = words
 
 -- "code, line, count of records, greatest depth"
 abbrev pub four : ℕ → ℕ → ℕ → ℕ → Checked
@@ -65,7 +65,7 @@ module _ (text : List ℕ) (answer : Checked) (call : Checks text answer) where
 
   -- codes 1 and 2 for the whole text, then the lowest code of the first faulty line, with its place
   pub check-refused : (code line : ℕ) → Refused text code line → answer ≡ four code line 0 0
-  check-refused code line w = unread code line (refused-exactly text code line .1 w)
+  check-refused code line w = unread code line (unreadable-exactly text code line .1 w)
 
   -- and no other code or line is told
   pub check-told : (answer .code ≡ 0 → ⊥)

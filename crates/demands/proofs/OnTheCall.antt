@@ -1,7 +1,7 @@
 -- The three demands on the call of merge: here a visitor begins. `merge` and its export (crates/brooksaddle/src/lib.rt) ask nothing, and
 -- ensure `Merges` of the texts handed in, the five numbers answered and the two lent buffers; what follows holds of every such call. `old`,
 -- `first` and `second` are the texts, `table` and `ledger` the buffers before the call; a name with a prime is a buffer after it. What each
--- code means is said here in words of texts, facts, edits and lengths (rules/specs/Refusal, Conditions, Room), not by the definitions that
+-- code means is said here in words of texts, facts, edits and lengths (rules/specs/UnreadableText, Conditions, Room), not by the definitions that
 -- compute the merge. Assumes nothing.
 use mathlib.Core.Path.{_≡_, refl, sym, ap, _∙_}
 use mathlib.Core.Logic.{_⊎_, inl, inr, _↔_}
@@ -24,12 +24,12 @@ use Rattle.rules.specs.Demands.{Within, Tables, Answered, tradedOutcome}
 use Rattle.rules.specs.Conditions.{BrokenList, ContentClash, LostEdit, Names, NeighbourClash, Nowhere, ParentClash, RecordOf, Refusal}
 use Rattle.rules.specs.Conditions.{TopOrRecordOf}
 use Rattle.rules.specs.ReadableText.{IsTable}
-use Rattle.rules.specs.Refusal.{Refused}
+use Rattle.rules.specs.UnreadableText.{Refused}
 use Rattle.rules.specs.Room.{TooLarge, Sized, TableTooLong, LedgerTooLong}
 use Rattle.rules.specs.declared.answers.Merged.{Merged}
 use Rattle.rules.proofs.Settled.{merge-settled}
 use Rattle.readback.proofs.ReadableText.{readable-exactly}
-use Rattle.readback.proofs.RefusedText.{refused-exactly}
+use Rattle.readback.proofs.UnreadableText.{unreadable-exactly}
 use Rattle.demands.proofs.Reading.{old-unread, branch-unread, done-read}
 use Rattle.demands.proofs.Coded.{texts-coded, zero-done}
 use Rattle.demands.proofs.Swapping.{traded-answer, traded-table}
@@ -247,44 +247,44 @@ module _ (old first second table ledger : List ℕ) (answer : Merged) (table′ 
     (call : Merges old first second table ledger answer table′ ledger′) where
   module _ (o : List Row) (bs : List (List Row)) (read : Tables old (first ∷ second ∷ []) o bs) where
     -- "merged table over 512 records or 32,768 bytes"
-    pub room-26 : (answer .code ≡ 26) ↔ ((f : Tree) × TooLarge o bs f)
-    room-26 = large-exactly old (first ∷ second ∷ []) o bs read (length table) (length ledger) answer (call .answered)
+    pub demand1-26 : (answer .code ≡ 26) ↔ ((f : Tree) × TooLarge o bs f)
+    demand1-26 = large-exactly old (first ∷ second ∷ []) o bs read (length table) (length ledger) answer (call .answered)
 
-    pub room-26-told : (f : Tree) → TooLarge o bs f → answer ≡ told 26 0 0 0 0
-    room-26-told = large-told old (first ∷ second ∷ []) o bs read (length table) (length ledger) answer (call .answered)
+    pub demand1-26-told : (f : Tree) → TooLarge o bs f → answer ≡ told 26 0 0 0 0
+    demand1-26-told = large-told old (first ∷ second ∷ []) o bs read (length table) (length ledger) answer (call .answered)
 
     -- "table buffer too short"
-    pub room-31 : (answer .code ≡ 31) ↔ ((f : Tree) × TableTooLong o bs (length table) f)
-    room-31 = table-exactly old (first ∷ second ∷ []) o bs read (length table) (length ledger) answer (call .answered)
+    pub demand1-31 : (answer .code ≡ 31) ↔ ((f : Tree) × TableTooLong o bs (length table) f)
+    demand1-31 = table-exactly old (first ∷ second ∷ []) o bs read (length table) (length ledger) answer (call .answered)
 
-    pub room-31-told : (f : Tree) → TableTooLong o bs (length table) f
+    pub demand1-31-told : (f : Tree) → TableTooLong o bs (length table) f
         → answer ≡ told 31 0 0 (length (writtenTree f)) (length (ledgerOf (entriesOf o bs f)))
-    room-31-told = table-told old (first ∷ second ∷ []) o bs read (length table) (length ledger) answer (call .answered)
+    demand1-31-told = table-told old (first ∷ second ∷ []) o bs read (length table) (length ledger) answer (call .answered)
 
     -- "ledger buffer too short"
-    pub room-32 : (answer .code ≡ 32) ↔ ((f : Tree) × LedgerTooLong o bs (length table) (length ledger) f)
-    room-32 = ledger-exactly old (first ∷ second ∷ []) o bs read (length table) (length ledger) answer (call .answered)
+    pub demand1-32 : (answer .code ≡ 32) ↔ ((f : Tree) × LedgerTooLong o bs (length table) (length ledger) f)
+    demand1-32 = ledger-exactly old (first ∷ second ∷ []) o bs read (length table) (length ledger) answer (call .answered)
 
-    pub room-32-told : (f : Tree) → LedgerTooLong o bs (length table) (length ledger) f
+    pub demand1-32-told : (f : Tree) → LedgerTooLong o bs (length table) (length ledger) f
         → answer ≡ told 32 0 0 (length (writtenTree f)) (length (ledgerOf (entriesOf o bs f)))
-    room-32-told = ledger-told old (first ∷ second ∷ []) o bs read (length table) (length ledger) answer (call .answered)
+    demand1-32-told = ledger-told old (first ∷ second ∷ []) o bs read (length table) (length ledger) answer (call .answered)
 
   -- "An unreadable table is refused with table, line and fault", each in document 01's words: the first of old, first and second
 
   pub unread-old : (code line : ℕ) → Refused old code line → answer ≡ told code 1 line 0 0
   unread-old code line u =
-      demand1-old old first second table ledger answer table′ ledger′ call code line (refused-exactly old code line .1 u)
+      demand1-old old first second table ledger answer table′ ledger′ call code line (unreadable-exactly old code line .1 u)
 
   pub unread-first : (o : List Row) (code line : ℕ) → IsTable old o → Refused first code line → answer ≡ told code 2 line 0 0
   unread-first o code line p u =
       demand1-first old first second table ledger answer table′ ledger′ call o code line (readable-exactly old o .1 p)
-      (refused-exactly first code line .1 u)
+      (unreadable-exactly first code line .1 u)
 
   pub unread-second : (o f : List Row) (code line : ℕ) → IsTable old o → IsTable first f → Refused second code line
       → answer ≡ told code 3 line 0 0
   unread-second o f code line p q u =
       demand1-second old first second table ledger answer table′ ledger′ call o f code line (readable-exactly old o .1 p)
-      (readable-exactly first f .1 q) (refused-exactly second code line .1 u)
+      (readable-exactly first f .1 q) (unreadable-exactly second code line .1 u)
 
   -- whatever the texts: the lengths told, and the room that is always enough. Document 01's buffers hold 32,768 and 8,192 bytes.
 
@@ -333,9 +333,9 @@ module _ (old first second table ledger : List ℕ) (answer : Merged) (table′ 
         go : (answer .code ≡ 31) ⊎ (answer .code ≡ 32) → Written
         go (inl z) =
             let r = demand1-read old first second table ledger answer table′ ledger′ call (omega arith) in
-            let w = room-31 (r .0) (r .1) (r .2) .0 z in
-            sized-written 31 (r .0) (r .1) (r .2) (w .0) (w .1 .sized) (room-31-told (r .0) (r .1) (r .2) (w .0) (w .1))
+            let w = demand1-31 (r .0) (r .1) (r .2) .0 z in
+            sized-written 31 (r .0) (r .1) (r .2) (w .0) (w .1 .sized) (demand1-31-told (r .0) (r .1) (r .2) (w .0) (w .1))
         go (inr z) =
             let r = demand1-read old first second table ledger answer table′ ledger′ call (omega arith) in
-            let w = room-32 (r .0) (r .1) (r .2) .0 z in
-            sized-written 32 (r .0) (r .1) (r .2) (w .0) (w .1 .sized) (room-32-told (r .0) (r .1) (r .2) (w .0) (w .1))
+            let w = demand1-32 (r .0) (r .1) (r .2) .0 z in
+            sized-written 32 (r .0) (r .1) (r .2) (w .0) (w .1 .sized) (demand1-32-told (r .0) (r .1) (r .2) (w .0) (w .1))

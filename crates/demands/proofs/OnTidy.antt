@@ -20,11 +20,11 @@ use Rattle.rules.specs.Written.{tidied, over}
 use Rattle.rules.specs.Calls.{tidyTold, tidyOf, tidyInto}
 use Rattle.rules.specs.Promises.{Tidies}
 use Rattle.rules.specs.ReadableText.{IsTable}
-use Rattle.rules.specs.Refusal.{Refused}
+use Rattle.rules.specs.UnreadableText.{Refused}
 use Rattle.rules.specs.declared.answers.Tidied.{Tidied}
 use Rattle.readback.proofs.Refusing.{refused-range}
 use Rattle.readback.proofs.ReadableText.{readable-exactly}
-use Rattle.readback.proofs.RefusedText.{refused-exactly}
+use Rattle.readback.proofs.UnreadableText.{unreadable-exactly}
 use Rattle.readback.proofs.TreesBack.{same-tree}
 use Rattle.readback.proofs.Tidying.{tidied-length, tidied-within, tidied-again}
 
@@ -111,7 +111,7 @@ module _ (text buffer : List ℕ) (answer : Tidied) (buffer′ : List ℕ) (call
   -- a text that is no table: its code and line, and no length
   pub tidy-refused-told : (code line : ℕ) → Refused text code line → answer ≡ tidyTold code line 0
   tidy-refused-told code line w =
-      call .answered ∙ ap (λ (v : Verdict). tidyOf v (length buffer)) (refused-exactly text code line .1 w)
+      call .answered ∙ ap (λ (v : Verdict). tidyOf v (length buffer)) (unreadable-exactly text code line .1 w)
 
   -- a buffer as long as the text is always enough, whatever the text
   pub tidy-never-31 : length text ≤ length buffer → answer .code ≡ 31 → ⊥

@@ -12,19 +12,25 @@ use Rattle.rules.specs.Text.{LF, before, fields, value}
 use Rattle.rules.specs.Line.{Row}
 use Rattle.rules.specs.Tree.{Tree}
 use Rattle.rules.specs.Facts.{factsOf}
+use Rattle.rules.specs.Merge.{refused, merge}
 use Rattle.rules.specs.Ledger.{entriesOf}
 use Rattle.rules.specs.Calls.{Outcome, mergeTexts, mergeOutcome, answerOf, shown}
 use Rattle.rules.specs.Promises.{Merges}
-use Rattle.rules.specs.Demands.{Answers, Tables}
-use Rattle.rules.specs.Refusal.{Refused, tooLong, unended, onLine}
+use Rattle.rules.specs.Demands.{Readable, Answers, Tables}
+use Rattle.rules.specs.Conditions.{TopOrRecordOf}
+use Rattle.rules.specs.UnreadableText.{Refused, tooLong, unended, onLine}
 use Rattle.rules.specs.declared.answers.Merged.{Merged}
+use Rattle.trees.proofs.Marks.{record-high}
+use Rattle.trees.proofs.OneTable.{number-record}
+use Rattle.trees.proofs.Refusing as trees
+use Rattle.trees.proofs.Naming.{refusal-place}
 use Rattle.readback.proofs.Splitting.{count-le}
-use Rattle.readback.proofs.RefusedText.{refused-exactly}
+use Rattle.readback.proofs.UnreadableText.{unreadable-exactly}
 use Rattle.demands.proofs.Demand3.{all-readable}
 use Rattle.demands.proofs.Unread.{Unread, read-or-not}
 use Rattle.demands.proofs.Room.{Ends, large, tableLong, ledgerLong, fits, Clashed, ends, answer-ends}
 use Rattle.demands.proofs.Lengths.{all-limited}
-use Rattle.demands.proofs.Places.{clash-place}
+use Rattle.demands.proofs.Clashes.{one-read}
 use Rattle.demands.proofs.Printed.{inOrder, printed-numbers}
 
 -- ---- the line of a refused table
@@ -56,6 +62,19 @@ module _ (old first second : List ℕ) (a b : ℕ) (answer : Merged) (is : answe
     tree-ranged f (ledgerLong p q r s e) = ranged _ e (record { code = omega arith; table = omega arith; place = omega arith })
     tree-ranged f (fits p q r s e) = ranged _ e (record { code = omega arith; table = omega arith; place = omega arith })
 
+    -- a clash is told at a record of a branch, or at the top
+    clash-place : (code place : ℕ) → merge (factsOf o) (map factsOf bs) ≡ refused code place → place ≤ 65535
+    clash-place code place m =
+        let b = one-read first (second ∷ []) bs (read .branches-read) in
+        low (refusal-place o bs ok (b .0) (b .1) code place (trees.refused-exactly o bs ok code place .0 m))
+      where
+        ok : (t : List Row) → t ∈ o ∷ bs → Readable t
+        ok = all-readable old branches o bs read
+
+        low : TopOrRecordOf bs place → place ≤ 65535
+        low (inl e) = omega (arith, e)
+        low (inr w) = omega (arith, record-high place (number-record (w .0) (ok (w .0) (there (w .1)) .distinct) place (w .2)))
+
     read-ranged : Ranged answer
     read-ranged = go (ends old branches o bs read a b)
       where
@@ -64,7 +83,7 @@ module _ (old first second : List ℕ) (a b : ℕ) (answer : Merged) (is : answe
             ranged _ (c .told) (record {
               code = omega (arith, c .high);
               table = omega arith;
-              place = clash-place o bs (all-readable old branches o bs read) (c .code) (c .place) (c .found);
+              place = clash-place (c .code) (c .place) (c .found);
             })
         go (inr w) = tree-ranged (w .0) (answer-ends old branches o bs read a b (w .0) (w .1))
 
@@ -77,7 +96,7 @@ module _ (old first second : List ℕ) (a b : ℕ) (answer : Merged) (is : answe
           ranged _ (u .told) (record {
             code = omega (arith, u .high);
             table = u .one;
-            place = line-few (refused-exactly (u .text) (u .code) (u .line) .0 (u .refused));
+            place = line-few (unreadable-exactly (u .text) (u .code) (u .line) .0 (u .refused));
           })
 
 -- ---- on the call

@@ -11,7 +11,7 @@ pub mod Refusing
 pub mod ReadBack
 pub mod Canonical
 pub mod ReadableText
-pub mod RefusedText
+pub mod UnreadableText
 pub mod TreesBack
 pub mod Tidying
 pub mod Parts

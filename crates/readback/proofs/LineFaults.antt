@@ -17,8 +17,8 @@ use Rattle.rules.specs.Text.{TAB, allowed, count, before, after, decimal, value
 use Rattle.rules.specs.Line.{Row, numberPart, parentPart, contentPart, rowOf, numberOk, parentOk}
 use Rattle.rules.specs.Table.{numbers, stands, fault}
 use Rattle.rules.specs.Written.{digits}
-use Rattle.rules.specs.Refusal.{Parts, EmptyField, Fault, line513, badByte, fewTabs, badNumber, badParent, badContent, numberTwice}
-use Rattle.rules.specs.Refusal.{parentMissing}
+use Rattle.rules.specs.UnreadableText.{Parts, EmptyField, Fault, line513, badByte, fewTabs, badNumber, badParent, badContent, numberTwice}
+use Rattle.rules.specs.UnreadableText.{parentMissing}
 use Rattle.trees.proofs.Marks.{record-low, record-high}
 use Rattle.readback.proofs.Splitting.{every-in, before-at, after-at, rejoin, count-after}
 use Rattle.readback.proofs.Decimals.{digits-decimal, digits-value, decimal-digits}

@@ -7,7 +7,7 @@
 --     Lettered trees                proofs/Lettered
 --     Slips to rule out             must-fail/
 --     Promises                      Promises, proofs/Settled
--- and what the three demands speak of stands in Demands and Room. ReadableText and Refusal say in document 01's own words, with its numbers
+-- and what the three demands speak of stands in Demands and Room. ReadableText and UnreadableText say in document 01's own words, with its numbers
 -- and nothing on how a text is read, what a table is and what a refusal. Lists and Quoted are words that the others use.
 pub mod Limits
 pub mod Codes
@@ -28,4 +28,4 @@ pub mod Demands
 pub mod Conditions
 pub mod Room
 pub mod ReadableText
-pub mod Refusal
+pub mod UnreadableText

@@ -18,8 +18,8 @@ use Rattle.rules.specs.Text.{LF, count, onto, lines, last, ended}
 use Rattle.rules.specs.Line.{Row, rowOf}
 use Rattle.rules.specs.Table.{fault, unreadable, readLines, verdict}
 use Rattle.rules.specs.Written.{body, written}
-use Rattle.rules.specs.Refusal.{Fault, line513, badByte, fewTabs, badNumber, badParent, badContent, numberTwice, parentMissing}
-use Rattle.rules.specs.Refusal.{FirstFault, EndsIn, Refused, tooLong, unended, onLine}
+use Rattle.rules.specs.UnreadableText.{Fault, line513, badByte, fewTabs, badNumber, badParent, badContent, numberTwice, parentMissing}
+use Rattle.rules.specs.UnreadableText.{FirstFault, EndsIn, Refused, tooLong, unended, onLine}
 use Rattle.readback.proofs.Splitting.{last-append, lines-at, endedLine, joined, lines-joined}
 use Rattle.readback.proofs.Following.{Good}
 use Rattle.readback.proofs.LineFaults.{fault-lowest}
@@ -272,5 +272,5 @@ words-refused text (onLine code line h e w) =
 
 -- ---- exactly
 
-pub refused-exactly : (text : List ℕ) (code line : ℕ) → (verdict text ≡ unreadable code line) ↔ Refused text code line
-refused-exactly text code line = (refused-words text code line, words-refused text)
+pub unreadable-exactly : (text : List ℕ) (code line : ℕ) → (verdict text ≡ unreadable code line) ↔ Refused text code line
+unreadable-exactly text code line = (refused-words text code line, words-refused text)
