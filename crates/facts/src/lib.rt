@@ -276,7 +276,8 @@ fn put(lines: &[u16; NUMBERS], facts: &mut [u32; FACTS], n: Record, k: usize, v:
 fn hang(lines: &[u16; NUMBERS], facts: &mut [u32; FACTS], n: Record, r: Record, p: Record)
     ensures { λ z.
         ⌜ now (facts .exit) ≡ putField (now (lines .entry))
-        (putField (now (lines .entry)) (now (facts .entry)) (who (r .number) (p .number)) (way (p .number)) (n .number)) (r .number) LAST (n .number) ⌝ }
+        (putField (now (lines .entry)) (now (facts .entry)) (who (r .number) (p .number)) (way (p .number)) (n .number))
+        (r .number) LAST (n .number) ⌝ }
 {
     let w = who(r, p);
     let k = way(p);
