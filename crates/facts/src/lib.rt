@@ -150,6 +150,14 @@ pub fn number_on(facts: &[u32; FACTS], l: usize) -> Record
     Record::new(field_on(facts, l, NUMBER))
 }
 
+// the parent of the record on a line
+pub fn parent_on(facts: &[u32; FACTS], l: usize) -> Record
+    requires { ⌜ l < ROOM ⌝ }
+    ensures { λ r. ⌜ r .number ≡ fieldOn (now (facts .entry)) l PARENT ⌝ }
+{
+    Record::new(field_on(facts, l, PARENT))
+}
+
 // ---- the questions
 
 // whether the record is there

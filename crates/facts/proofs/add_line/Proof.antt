@@ -9,35 +9,35 @@ use Rattle.facts.proofs.hang.Reads as hang-reads
 use Rattle.facts.proofs.lay.Reads as lay-reads
 use Rattle.facts.proofs.record_in.Reads as record-in-reads
 
--- src/lib.rt:303:9
+-- src/lib.rt:312:9
 record-in-requires : tie.Need-record-in-requires
 record-in-requires c κs = search needs
 
--- src/lib.rt:304:32
+-- src/lib.rt:313:32
 cast-lines : tie.Need-cast-lines
 cast-lines c = search needs
 
--- src/lib.rt:304:11
+-- src/lib.rt:313:11
 cast-lines-2 : tie.Need-cast-lines-2
 cast-lines-2 c = search needs
 
--- src/lib.rt:304:5
+-- src/lib.rt:313:5
 mul-lines : tie.Need-mul-lines
 mul-lines c = search needs
 
--- src/lib.rt:304:5
+-- src/lib.rt:313:5
 element-write-lines : tie.Need-element-write-lines
 element-write-lines c = search needs
 
--- src/lib.rt:305:5
+-- src/lib.rt:314:5
 lay-requires : tie.Need-lay-requires
 lay-requires c κs = search needs
 
--- src/lib.rt:306:5
+-- src/lib.rt:315:5
 hang-requires : tie.Need-hang-requires
 hang-requires c κs = search needs
 
--- src/lib.rt:288:1
+-- src/lib.rt:297:1
 returns : tie.Need-returns
 returns c = search stores
 

@@ -10,39 +10,39 @@ use Rattle.facts.proofs.list.Reads as list-reads
 use Rattle.facts.proofs.record_in.Reads as record-in-reads
 use Rattle.rules.proofs.record.Record.is_end.Reads as is-end-reads
 
--- src/lib.rt:209:8
+-- src/lib.rt:217:8
 is-end-requires : tie.Need-is-end-requires
 is-end-requires c κs = search needs
 
--- src/lib.rt:210:12
+-- src/lib.rt:218:12
 list-requires : tie.Need-list-requires
 list-requires c κs = search needs
 
--- src/lib.rt:211:13
+-- src/lib.rt:219:13
 record-in-requires : tie.Need-record-in-requires
 record-in-requires c κs = search needs
 
--- src/lib.rt:211:13
+-- src/lib.rt:219:13
 returns : tie.Need-returns
 returns c = search asks
 
--- src/lib.rt:213:9
+-- src/lib.rt:221:9
 returns-2 : tie.Need-returns-2
 returns-2 c = search asks
 
--- src/lib.rt:215:8
+-- src/lib.rt:223:8
 child-requires : tie.Need-child-requires
 child-requires c κs = search needs
 
--- src/lib.rt:216:9
+-- src/lib.rt:224:9
 record-in-requires-2 : tie.Need-record-in-requires-2
 record-in-requires-2 c κs = search needs
 
--- src/lib.rt:216:9
+-- src/lib.rt:224:9
 returns-3 : tie.Need-returns-3
 returns-3 c = search asks
 
--- src/lib.rt:206:1
+-- src/lib.rt:214:1
 returns-4 : tie.Need-returns-4
 returns-4 c = search asks
 

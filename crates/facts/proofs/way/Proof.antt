@@ -7,15 +7,15 @@ use Rattle.facts.proofs.way.Reads as reads
 use Rattle.facts.proofs.way.Lts as lts
 use Rattle.rules.proofs.record.Record.is_start.Reads as is-start-reads
 
--- src/lib.rt:260:8
+-- src/lib.rt:268:8
 is-start-requires : tie.Need-is-start-requires
 is-start-requires c κs = search needs
 
--- src/lib.rt:261:9
+-- src/lib.rt:269:9
 returns : tie.Need-returns
 returns c = search stores
 
--- src/lib.rt:256:1
+-- src/lib.rt:264:1
 returns-2 : tie.Need-returns-2
 returns-2 c = search stores
 

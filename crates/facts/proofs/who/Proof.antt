@@ -7,15 +7,15 @@ use Rattle.facts.proofs.who.Reads as reads
 use Rattle.facts.proofs.who.Lts as lts
 use Rattle.rules.proofs.record.Record.is_start.Reads as is-start-reads
 
--- src/lib.rt:250:8
+-- src/lib.rt:258:8
 is-start-requires : tie.Need-is-start-requires
 is-start-requires c κs = search needs
 
--- src/lib.rt:251:9
+-- src/lib.rt:259:9
 returns : tie.Need-returns
 returns c = search stores
 
--- src/lib.rt:247:1
+-- src/lib.rt:255:1
 returns-2 : tie.Need-returns-2
 returns-2 c = search stores
 

@@ -36,8 +36,8 @@ returns c =
     let loop = c .before .before .before .before in
     let s = loop .before .args in
     let v : ℕ → ℕ = λ k. ask (now (s .lines)) (now (s .facts)) k .before (s .r .number) (s .s .number) in (
-      fresh-here v (s .o .number) _ _ _ (loop .loop .inv) (c .before .before .before .loop-test .taken) (c .before .before .forerunner-in .ensures)
-          (c .before .fresh .ensures) (c .if1 .taken),
+      fresh-here v (s .o .number) _ _ _ (loop .loop .inv) (c .before .before .before .loop-test .taken)
+          (c .before .before .forerunner-in .ensures) (c .before .fresh .ensures) (c .if1 .taken),
       c .before .before .before .loop-test .taken,
     )
 
@@ -55,8 +55,8 @@ loop-again c =
     let loop = c .before .before .before .before in
     let s = loop .before .args in
     let v : ℕ → ℕ = λ k. ask (now (s .lines)) (now (s .facts)) k .before (s .r .number) (s .s .number) in
-    fresh-on v (s .o .number) _ _ _ (loop .loop .inv) (c .before .before .before .loop-test .taken) (c .before .before .forerunner-in .ensures)
-    (c .before .fresh .ensures) (c .if1 .left)
+    fresh-on v (s .o .number) _ _ _ (loop .loop .inv) (c .before .before .before .loop-test .taken)
+    (c .before .before .forerunner-in .ensures) (c .before .fresh .ensures) (c .if1 .left)
 
 -- src/clash.rt:46:1
 returns-2 : tie.Need-returns-2 Inv-loop μ-loop

@@ -42,9 +42,9 @@ returns : tie.Need-returns
 returns c =
     let s = c .before .before .before .before .before .before .args in
     let q = ask (now (s .lines)) (now (s .facts)) in
-    lesser-place (λ u. torn q (s .t) u (s .n .number) (s .n .number)) _ _ _ _ _ _ _ _ _ (c .before .before .before .before .before .parent-in .ensures)
-    (c .before .before .before .before .torn .ensures) (c .before .before .before .torn2 .ensures) (c .before .before .place .ensures)
-    (c .before .place2 .ensures) (c .smaller .ensures)
+    lesser-place (λ u. torn q (s .t) u (s .n .number) (s .n .number)) _ _ _ _ _ _ _ _ _
+    (c .before .before .before .before .before .parent-in .ensures) (c .before .before .before .before .torn .ensures)
+    (c .before .before .before .torn2 .ensures) (c .before .before .place .ensures) (c .before .place2 .ensures) (c .smaller .ensures)
 
 pub neighbour-place-spec : {M : Type 1} → statement M
 neighbour-place-spec =
