@@ -14,7 +14,7 @@ use Rattle.contents.proofs.content_source.Lts as lts
 use Rattle.contents.proofs.marks.edited.Reads as edited-reads
 
 abbrev Inv-loop : tie.InvT-loop
-Inv-loop lines marks n table₀ origin₀ t₀ table origin t = Seeking (λ k. editedIn lines marks k n) t table origin
+Inv-loop lines marks n table₀ origin₀ t₀ table origin t = Seeking (λ k. editedIn lines marks k (n .number)) t table origin
 
 abbrev μ-loop : tie.MeasureT-loop
 μ-loop lines marks n table₀ origin₀ t₀ table origin t = TABLES - t
@@ -43,7 +43,7 @@ loop-less c = search seeks
 loop-again : tie.Need-loop-again Inv-loop μ-loop
 loop-again c =
     let s = c .before .before .before .before .args in
-    let test : ℕ → Bool = λ k. editedIn (now (s .lines)) (now (s .marks)) k (s .n) in
+    let test : ℕ → Bool = λ k. editedIn (now (s .lines)) (now (s .marks)) k (s .n .number) in
     let w = c .before .before .before .loop .inv in
     let low = c .before .before .loop-test .taken in
     let asked = c .before .edited .ensures in

@@ -25,7 +25,7 @@ returns c =
     let edit = c .before .before .before in
     let from = edit .before in
     let s = from .args in
-    two-first (map now (now (s .texts))) (now (s .lines)) (now (s .facts)) (now (s .marks)) (from .pre .1) (s .n) (s .t)
+    two-first (map now (now (s .texts))) (now (s .lines)) (now (s .facts)) (now (s .marks)) (from .pre .1) (s .n .number) (s .t)
     (from .pre .0 .0 .0) (from .pre .0 .0 .1) _ (edit .edited .ensures) _ (c .before .before .if1 .taken)
     (c .before .content-source .ensures .0) (c .if2 .taken)
 
@@ -39,7 +39,7 @@ returns-2 c =
     let edit = c .before .before .before .before in
     let from = edit .before in
     let s = from .args in
-    two-asked (map now (now (s .texts))) (now (s .lines)) (now (s .facts)) (now (s .marks)) (from .pre .1) (s .n) (s .t)
+    two-asked (map now (now (s .texts))) (now (s .lines)) (now (s .facts)) (now (s .marks)) (from .pre .1) (s .n .number) (s .t)
     (from .pre .0 .0 .0) (from .pre .0 .0 .1) _ (edit .edited .ensures) _ _ (c .before .before .before .if1 .taken)
     (c .before .before .content-source .ensures .0) (c .same-in .ensures)
 
@@ -48,7 +48,7 @@ returns-3 : tie.Need-returns-3
 returns-3 c =
     let from = c .before .before in
     let s = from .args in
-    two-none (map now (now (s .texts))) (now (s .lines)) (now (s .facts)) (now (s .marks)) (from .pre .1) (s .n) (s .t)
+    two-none (map now (now (s .texts))) (now (s .lines)) (now (s .facts)) (now (s .marks)) (from .pre .1) (s .n .number) (s .t)
     (from .pre .0 .0 .0) (from .pre .0 .0 .1) _ (c .before .edited .ensures) (c .if1 .left)
 
 pub two-contents-spec : {M : Type 1} → statement M
