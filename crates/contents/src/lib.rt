@@ -173,7 +173,11 @@ struct Source {
     origin: usize,
 }
 
-fn content_source(lines: &[[u16; NUMBERS]; TABLES], marks: &[[u8; ROOM]; TABLES], n: Record) -> Source
+fn content_source(
+    lines: &[[u16; NUMBERS]; TABLES],
+    marks: &[[u8; ROOM]; TABLES],
+    n: Record,
+) -> Source
     ensures { λ z. ⌜ z .table ≡ firstBranch (λ k. editedIn (now (lines .entry)) (now (marks .entry)) k (n .number)) ⌝ }
     ensures { λ z. ⌜ z .table < TABLES ⌝ }
     ensures { λ z. ⌜ z .origin ≡ sumBranches (λ k. editedIn (now (lines .entry)) (now (marks .entry)) k (n .number)) ⌝ }

@@ -19,27 +19,27 @@ Inv-loop lines marks n table₀ origin₀ t₀ table origin t = Seeking (λ k. e
 abbrev μ-loop : tie.MeasureT-loop
 μ-loop lines marks n table₀ origin₀ t₀ table origin t = TABLES - t
 
--- src/lib.rt:184:5
+-- src/lib.rt:189:5
 loop-holds : tie.Need-loop-holds Inv-loop μ-loop
 loop-holds c = search seeks
 
--- src/lib.rt:185:12
+-- src/lib.rt:190:12
 edited-requires : tie.Need-edited-requires Inv-loop μ-loop
 edited-requires c κs = search seeks
 
--- src/lib.rt:189:13
+-- src/lib.rt:194:13
 add-origin : tie.Need-add-origin Inv-loop μ-loop
 add-origin c = search seeks
 
--- src/lib.rt:191:9
+-- src/lib.rt:196:9
 add-t : tie.Need-add-t Inv-loop μ-loop
 add-t c = search seeks
 
--- src/lib.rt:184:5
+-- src/lib.rt:189:5
 loop-less : tie.Need-loop-less Inv-loop μ-loop
 loop-less c = search seeks
 
--- src/lib.rt:184:5
+-- src/lib.rt:189:5
 loop-again : tie.Need-loop-again Inv-loop μ-loop
 loop-again c =
     let s = c .before .before .before .before .args in
@@ -55,7 +55,7 @@ loop-again c =
       | inr u ↦ seek-moved test _ _ _ (seek-on test _ _ _ w _ low asked (u .0 .left)) (u .1) (u .2)
     ]
 
--- src/lib.rt:175:1
+-- src/lib.rt:176:1
 returns : tie.Need-returns Inv-loop μ-loop
 returns c = (search seeks, (search seeks, (search seeks, search seeks)))
 
