@@ -248,7 +248,8 @@ module _ (nx : ℕ → ℕ → ℕ) (part : ℕ → Part) (ls₀ fs₀ : List �
           go kept known ct st (a ∷ path) deep at f =
               let e : s ≡ nx (a .parent) p = es ∙ ap (λ (q : ℕ). nx q p) at in
               let many : length path ≡ lists - 1 = omega arith in
-              let b : min broken (place (not (eqb s END)) r) ≡ broken′ = sym (eb ∙ ap (min broken) (ev ∙ ap (λ (a : Bool). place (not a) r) ey)) in
+              let b : min broken (place (not (eqb s END)) r) ≡ broken′ =
+              sym (eb ∙ ap (min broken) (ev ∙ ap (λ (a : Bool). place (not a) r) ey)) in
               subst (λ (m : ℕ). Stand nx part kept known ct ls fs r′ r count m broken′) many
               (subst (λ (m : ℕ). Stand nx part kept known ct ls fs r′ r count (length path) m) b
               (subst (λ (q : ℕ). Stand nx part kept known ct ls fs q r count (length path) (min broken (place (not (eqb s END)) r)))
