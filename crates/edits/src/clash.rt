@@ -187,7 +187,7 @@ pub fn neighbour_place(
 {
     let r = parent_in(lines, facts, t, n);
     let beside = torn(lines, facts, t, r, n, n);
-    let within = torn(lines, facts, t, n, Record::START, Record::END);
+    let within = torn(lines, facts, t, n, Record::start(), Record::end());
     let a = place(beside, r);
     let b = place(within, n);
     smaller(a, b)

@@ -67,7 +67,7 @@ fn lost_position(
 {
     let r = parent_in(lines, facts, t, n);
     let behind = lost_after(lines, facts, ls, fs, t, r, n);
-    let first = lost_after(lines, facts, ls, fs, t, n, Record::START);
+    let first = lost_after(lines, facts, ls, fs, t, n, Record::start());
     let a = place(behind, r);
     let b = place(first, n);
     smaller(a, b)
