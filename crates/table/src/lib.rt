@@ -80,7 +80,8 @@ fn read_lines(text: &[u8], lines: &mut [u16; NUMBERS], facts: &mut [u32; FACTS])
     let mut at: usize = 0;
     let mut count: usize = 0;
     while at < text.len() {
-        let l = line_at(text, at);
+        let reached = line_at(text, at);
+        let l = reached.line;
         let code = fault_of(lines, count, l);
         if code != ACCEPTED {
             return refused(code, (count + 1) as u32);
@@ -89,7 +90,7 @@ fn read_lines(text: &[u8], lines: &mut [u16; NUMBERS], facts: &mut [u32; FACTS])
         let length = l.length as u32;
         count += 1;
         add_line(lines, facts, count, l.number, l.parent, start, length);
-        at += l.next;
+        at = reached.at;
     }
     Read {
         code: ACCEPTED,

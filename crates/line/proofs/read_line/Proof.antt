@@ -49,8 +49,8 @@ returns-4 c = search judges
 cut-of : (c : tie.Else1) → Cut (now (c .before .before .before .before .args .rest)) (c .before .before .cut .result)
 cut-of c = search cut-is
 
-add-t7 : tie.Need-add-t7
-add-t7 c = omega (arith, cut-of (c .before .before .before .before .before .before .before .before .before) .high)
+add-t8 : tie.Need-add-t8
+add-t8 c = omega (arith, cut-of (c .before .before .before .before .before .before .before .before .before) .high)
 
 returns-5 : tie.Need-returns-5
 returns-5 c = search judges
@@ -72,5 +72,5 @@ read-line-spec =
     content-fits-requires
     faulty-requires-4
     returns-4
-    add-t7
+    add-t8
     returns-5)
