@@ -8,43 +8,43 @@ use Rattle.edits.proofs.clash.neighbour_place.Statement.{statement}
 use Rattle.edits.proofs.clash.neighbour_place.Tie as tie
 use Rattle.edits.proofs.clash.neighbour_place.Reads as reads
 use Rattle.edits.proofs.clash.neighbour_place.Lts as lts
+use Rattle.edits.proofs.clash.torn.Reads as torn-reads
 use Rattle.edits.proofs.parent_in.Reads as parent-in-reads
 use Rattle.edits.proofs.place.Reads as place-reads
 use Rattle.edits.proofs.smaller.Reads as smaller-reads
-use Rattle.edits.proofs.clash.torn.Reads as torn-reads
 
--- src/clash.rt:182:9
+-- src/clash.rt:184:9
 parent-in-requires : tie.Need-parent-in-requires
 parent-in-requires c κs = search needs
 
--- src/clash.rt:183:9
+-- src/clash.rt:185:9
 torn-requires : tie.Need-torn-requires
 torn-requires c κs = search needs
 
--- src/clash.rt:184:9
+-- src/clash.rt:186:9
 torn-requires-2 : tie.Need-torn-requires-2
 torn-requires-2 c κs = search needs
 
--- src/clash.rt:185:9
+-- src/clash.rt:187:9
 place-requires : tie.Need-place-requires
 place-requires c κs = search needs
 
--- src/clash.rt:186:9
+-- src/clash.rt:188:9
 place-requires-2 : tie.Need-place-requires-2
 place-requires-2 c κs = search needs
 
--- src/clash.rt:187:5
+-- src/clash.rt:189:5
 smaller-requires : tie.Need-smaller-requires
 smaller-requires c κs = search needs
 
--- src/clash.rt:173:1
+-- src/clash.rt:175:1
 returns : tie.Need-returns
 returns c =
     let s = c .before .before .before .before .before .before .args in
     let q = ask (now (s .lines)) (now (s .facts)) in
-    lesser-place (λ u. torn q (s .t) u (s .n) (s .n)) _ _ _ _ _ _ _ _ _ (c .before .before .before .before .before .parent-in .ensures)
-    (c .before .before .before .before .torn .ensures) (c .before .before .before .torn2 .ensures) (c .before .before .place .ensures)
-    (c .before .place2 .ensures) (c .smaller .ensures)
+    lesser-place (λ u. torn q (s .t) u (s .n .number) (s .n .number)) _ _ _ _ _ _ _ _ _
+    (c .before .before .before .before .before .parent-in .ensures) (c .before .before .before .before .torn .ensures)
+    (c .before .before .before .torn2 .ensures) (c .before .before .place .ensures) (c .before .place2 .ensures) (c .smaller .ensures)
 
 pub neighbour-place-spec : {M : Type 1} → statement M
 neighbour-place-spec =
