@@ -16,6 +16,7 @@ use Rattle.rules.specs.Limits.{GREATEST}
 use Rattle.rules.specs.Lists.{every}
 use Rattle.rules.specs.Marks.{isRecord}
 use Rattle.rules.specs.Line.{numberPart, parentPart, contentPart, numberOk, parentOk, lineFault}
+use Rattle.rules.specs.declared.record.Record.{Record}
 use Rattle.rules.specs.Text.{TAB, LF, allowed, count, before, decimal, value, filled, contentOk}
 use Rattle.readback.proofs.Splitting.{before-left}
 use Rattle.text.specs.Reads.{NONE, numberIn}
@@ -186,34 +187,35 @@ module _ (s : List ℕ) (parts : Parts) where
     behind-is : parts .end + 1 ≡ length l + 1
     behind-is = ap (λ (x : ℕ). x + 1) (cut .long)
 
-    abbrev row : Reached
-    row =
-        record {
-          line = record {
-            code = accepted;
-            number = parts .number;
-            parent = parts .parent;
-            start = parts .start;
-            length = long;
-          };
-          at = parts .end + 1;
-        }
+    module _ (number parent : Record) (p : number .number ≡ parts .number) (q : parent .number ≡ parts .parent) where
+      abbrev row : Reached
+      row =
+          record {
+            line = record {
+              code = accepted;
+              number = number;
+              parent = parent;
+              start = parts .start;
+              length = long;
+            };
+            at = parts .end + 1;
+          }
 
-    row-is : row ≡ good l
-    row-is =
-        λ i. record {
-          line = record {
-            code = accepted;
-            number = a .number .is i;
-            parent = a .is i;
-            start = start-is i;
-            length = long-is i;
-          };
-          at = behind-is i;
-        }
+      row-is : row ≡ good l
+      row-is =
+          λ i. record {
+            line = record {
+              code = accepted;
+              number = record { number = (p ∙ a .number .is) i };
+              parent = record { number = (q ∙ a .is) i };
+              start = start-is i;
+              length = long-is i;
+            };
+            at = behind-is i;
+          }
 
-    pub row-told : not u ≡ false → row ≡ nextLine s
-    row-told h = row-is ∙ told-good l (content-judged ∙ rw h)
+      pub row-told : not u ≡ false → row ≡ nextLine s
+      row-told h = row-is ∙ told-good l (content-judged ∙ rw h)
 
 pub ruleset judges = (cut-is, judge-shape, judge-number, numbered, judge-parent, parented, judge-content, row-told, needs)
 

@@ -15,7 +15,11 @@ use Rattle.line.specs.declared.LineReader.{LineReader}
 
 -- a faulty line: its code, and nothing else; it is not passed
 abbrev pub faulty : ℕ → Reached
-faulty code = record { line = record { code = code; number = 0; parent = 0; start = 0; length = 0 }; at = 0 }
+faulty code =
+    record {
+      line = record { code = code; number = record { number = 0 }; parent = record { number = 0 }; start = 0; length = 0 };
+      at = 0;
+    }
 
 -- a good line: its row, where its content starts in the line and how long it is; and the place behind its LF
 abbrev pub good : List ℕ → Reached
@@ -23,8 +27,8 @@ good l =
     record {
       line = record {
         code = accepted;
-        number = rowOf l .number;
-        parent = rowOf l .parent;
+        number = record { number = rowOf l .number };
+        parent = record { number = rowOf l .parent };
         start = length l - length (contentPart l);
         length = length (contentPart l);
       };

@@ -28,8 +28,8 @@ ghost use Rattle.line.specs.Parts.{shortFault, fieldsFrom, goodAfter, go
 // What is told of a line: code 0, number, parent, and the content's start and length in the line; or the code of its fault and zeros.
 pub struct Line {
     pub code: u32,
-    pub number: u32,
-    pub parent: u32,
+    pub number: Record,
+    pub parent: Record,
     pub start: usize,
     pub length: usize,
 }
@@ -62,8 +62,8 @@ fn faulty(code: u32) -> Reached
 {
     let line = Line {
         code,
-        number: 0,
-        parent: 0,
+        number: Record::TOP,
+        parent: Record::TOP,
         start: 0,
         length: 0,
     };
@@ -271,20 +271,22 @@ pub fn read_line(rest: &[u8]) -> Reached
     if parts.code != ACCEPTED {
         return faulty(parts.code);
     }
-    if !Record::new(parts.number).is_record() {
+    let number = Record::new(parts.number);
+    if !number.is_record() {
         return faulty(BAD_NUMBER);
     }
     if GREATEST < parts.parent {
         return faulty(BAD_PARENT);
     }
+    let parent = Record::new(parts.parent);
     let length = bytes_between(parts.start, parts.end);
     if !content_fits(length, parts.filled) {
         return faulty(BAD_CONTENT);
     }
     let line = Line {
         code: ACCEPTED,
-        number: parts.number,
-        parent: parts.parent,
+        number,
+        parent,
         start: parts.start,
         length,
     };

@@ -49,14 +49,14 @@ module _ (text ls fs : List ℕ) (place c : ℕ) (g : Reading text place ls fs c
       (f .under) (omega (arith, g .counted)) (omega (arith, g .counted, f .room)) (g .columns) (g .widths)
 
   -- the reading goes on behind the line
-  pub goes-on : (ls′ fs′ : List ℕ) → ls′ ≡ lines-by (l .number) → fs′ ≡ facts-by (l .number) (l .parent)
+  pub goes-on : (ls′ fs′ : List ℕ) → ls′ ≡ lines-by (l .number .number) → fs′ ≡ facts-by (l .number .number) (l .parent .number)
       → Reading text (r .at) ls′ fs′ (c + 1)
   goes-on ls′ fs′ p q =
       let good = is-good text ls fs place c g more r e fine in
       on text ls fs place c g more r e fine ls′ fs′
-      (subst (λ (z : List ℕ). Added ls fs z fs′ (g .seen) y start (l .length)) (sym (p ∙ (λ i. lines-by (good i .line .number))))
+      (subst (λ (z : List ℕ). Added ls fs z fs′ (g .seen) y start (l .length)) (sym (p ∙ (λ i. lines-by (good i .line .number .number))))
       (subst (λ (z : List ℕ). Added ls fs (lines-by (y .number)) z (g .seen) y start (l .length))
-      (sym (q ∙ (λ i. facts-by (good i .line .number) (good i .line .parent)))) grown))
+      (sym (q ∙ (λ i. facts-by (good i .line .number .number) (good i .line .parent .number)))) grown))
     where
       start : ℕ
       start = place + l .start
@@ -65,7 +65,7 @@ module _ (text ls fs : List ℕ) (place c : ℕ) (g : Reading text place ls fs c
   pub record Small : Type 0 where
     pub start-in : place + l .start ≤ BYTES
     pub length-in : l .length ≤ BYTES
-    pub number-in : l .number < NUMBERS
+    pub number-in : l .number .number < NUMBERS
     pub line-in : c + 1 < ROOM
     pub behind-in : r .at ≤ length text
     pub behind-on : place < r .at
@@ -80,7 +80,7 @@ module _ (text ls fs : List ℕ) (place c : ℕ) (g : Reading text place ls fs c
       ap (λ (z : Reached). z .line .start) good in
       let long : l .length ≡ length (contentPart (before LF (drop place text))) = ap (λ (z : Reached). z .line .length) good in
       let behind : r .at ≡ place + (length (before LF (drop place text)) + 1) = ap (λ (z : Reached). z .at) good in
-      let number : l .number ≡ y .number = ap (λ (z : Reached). z .line .number) good in
+      let number : l .number .number ≡ y .number = ap (λ (z : Reached). z .line .number .number) good in
       let content = content-le (before LF (drop place text)) in
       record {
         start-in = omega (arith, g .short);

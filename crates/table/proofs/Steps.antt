@@ -56,14 +56,17 @@ module _ (text ls fs : List ℕ) (place c code : ℕ) (r : Reached) (g : Reading
     pub line-room : c + 1 < ROOM
     line-room = small text ls fs place c g more r e fine .line-in
 
-    pub number-room : l .number < NUMBERS
+    pub number-room : l .number .number < NUMBERS
     number-room = small text ls fs place c g more r e fine .number-in
 
     pub less-left : length text - r .at < length text - place
     less-left = omega (arith, small text ls fs place c g more r e fine .behind-on)
 
-    pub good-line : (ls′ fs′ : List ℕ) → ls′ ≡ addLine ls (c + 1) (l .number)
-        → fs′ ≡ addFacts (addLine ls (c + 1) (l .number)) fs (c + 1) (l .number) (l .parent) (field ls fs (l .parent) LAST)
+    abbrev lines-on : List ℕ
+    lines-on = addLine ls (c + 1) (l .number .number)
+
+    pub good-line : (ls′ fs′ : List ℕ) → ls′ ≡ lines-on
+        → fs′ ≡ addFacts lines-on fs (c + 1) (l .number .number) (l .parent .number) (field ls fs (l .parent .number) LAST)
         (place + l .start) (l .length)
         → Reading text (r .at) ls′ fs′ (c + 1)
     good-line ls′ fs′ p d = goes-on text ls fs place c g more r e fine ls′ fs′ p d

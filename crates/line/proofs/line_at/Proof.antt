@@ -258,8 +258,8 @@ module _ {M : Type 1} (𝓤 : URA M) (H : Heap 𝓤) (A : Atoms 𝓤) (W : Given
             let whole-is = LL.owes R.the-type R′.the-laws (made t (zs .0)) (line-is, ((refl, fits), tt)) in
             land ! (from ! (stop !)) (init ! 12 refl (LL.lawful S.the-type S′.the-laws 𝓤 H A W .typed t _ is′ .0)) $
             rewrite ! 12 (λ (w : Val). ‵ (fat fullShare S′.mir l₄ 0 w)) (ap only (LL.tells S.the-type S′.the-laws t _ is′)) refl $
-            assigns ! (of-opd ! (load ! (from ! (fld ! refl (stop !))) (look-in ! 2 (sub ! 1 refl (whole !))))) (from ! (stop !))
-            (init ! 6 refl (tt, record { fits = fits })) $
+            assigns ! (of-opd ! (load ! (from ! (fld ! {d = 16} refl (stop !)))
+            (look-in ! 2 (sub ! 1 {d = 16} refl (whole !))))) (from ! (stop !)) (init ! 6 refl (tt, record { fits = fits })) $
             assigns ! (agg ! (and-then ! (load ! (from ! (stop !)) (look ! 12 refl))
             (and-then ! (load ! (from ! (stop !)) (look ! 6 refl)) (no-more !)))) (from ! (stop !))
             (init ! 19 refl (LL.lawful R.the-type R′.the-laws 𝓤 H A W .typed (made t (zs .0)) _ whole-is .0)) $
