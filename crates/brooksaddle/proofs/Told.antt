@@ -160,17 +160,19 @@ module _ (text ls fs : List ℕ) (a : Read) (w : Reads text ls fs a) where
           buffered = d .all t stored ∙ rw (table .is, b);
         }
 
-    -- ---- content
+    -- ---- content; n is the record made of the number m
 
-    pub part-absent : (n : ℕ) (b : Bool) (p : Part) → b ≡ hasIn ls n → b ≡ false → p ≡ noPart → p ≡ contentAnswer text n
-    part-absent n b p e f q =
-        q ∙ sym (part-none text t (table .is) n (λ m. true≢false (sym (lt-ltb 0 (lineAt ls n) (holds .known n m)) ∙ sym e ∙ f)))
+    pub part-absent : (n m : ℕ) (b : Bool) (p : Part) → n ≡ m → b ≡ hasIn ls n → b ≡ false → p ≡ noPart → p ≡ contentAnswer text m
+    part-absent n m b p i e f q =
+        q ∙ sym (part-none text t (table .is) n (λ j. true≢false (sym (lt-ltb 0 (lineAt ls n) (holds .known n j)) ∙ sym e ∙ f)))
+        ∙ ap (contentAnswer text) i
 
-    pub part-there : (n s k : ℕ) (b : Bool) → b ≡ hasIn ls n → b ≡ true → s ≡ field ls fs n PLACE → k ≡ field ls fs n LENGTH
-        → record { start = s; length = k } ≡ contentAnswer text n
-    part-there n s k b e f p q =
-        (λ i. record { start = p i; length = q i })
+    pub part-there : (n m s k : ℕ) (b : Bool) → n ≡ m → b ≡ hasIn ls n → b ≡ true → s ≡ field ls fs n PLACE → k ≡ field ls fs n LENGTH
+        → record { start = s; length = k } ≡ contentAnswer text m
+    part-there n m s k b i e f p q =
+        (λ j. record { start = p j; length = q j })
         ∙ w .placed t (table .is) n (holds .only n (ltb-true 0 (lineAt ls n) (sym e ∙ f)))
+        ∙ ap (contentAnswer text) i
 
 pub ruleset tellings = (
   check-refused,

@@ -15,6 +15,7 @@ use rules::answers::Part;
 use rules::answers::Tidied;
 use rules::codes::ACCEPTED;
 use rules::codes::TABLE_TOO_SHORT;
+use rules::record::Record;
 use table::read_all;
 use table::read_table;
 use write::write_table;
@@ -161,9 +162,10 @@ pub fn content_part(text: &[u8], number: u32) -> Part
     if read.code != ACCEPTED {
         return no_part();
     }
-    if has(&lines, number) {
-        let start = field(&lines, &facts, number, PLACE) as usize;
-        let length = field(&lines, &facts, number, LENGTH) as usize;
+    let n = Record::new(number);
+    if has(&lines, n) {
+        let start = field(&lines, &facts, n, PLACE) as usize;
+        let length = field(&lines, &facts, n, LENGTH) as usize;
         return Part { start, length };
     }
     no_part()

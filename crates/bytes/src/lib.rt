@@ -1,5 +1,6 @@
 // Bytes into a lent buffer: decimals, a content, the line of a row. Each call says exactly which bytes lie where afterwards; all others
 // stay as they were. `at` is the place of the first byte; each call answers the place after the last.
+use rules::record::Record;
 use text::LF;
 use text::TAB;
 ghost use mathlib.Core.Path.{_≡_};
@@ -127,15 +128,15 @@ pub fn copy(part: &[u8], out: &mut [u8], at: usize) -> usize
     copy_long(part, out, at)
 }
 
-// The line of a row: number, tab, parent, tab, content, LF.
-pub fn write_line(number: u32, parent: u32, content: &[u8], out: &mut [u8], at: usize) -> usize
-    requires { ⌜ at + (length (now content) + (3 + widthOf number + widthOf parent)) ≤ length (now out) ⌝ }
-    ensures { λ r.
-        ⌜ Put (now (out .entry)) (now (out .exit)) at r
-        (line (record { number = number; parent = parent; content = now (content .entry) })) ⌝ }
+// The line of record `n` under `r`: number, tab, parent, tab, content, LF.
+pub fn write_line(n: Record, r: Record, content: &[u8], out: &mut [u8], at: usize) -> usize
+    requires { ⌜ at + (length (now content) + (3 + widthOf (n .number) + widthOf (r .number))) ≤ length (now out) ⌝ }
+    ensures { λ z.
+        ⌜ Put (now (out .entry)) (now (out .exit)) at z
+        (line (record { number = n .number; parent = r .number; content = now (content .entry) })) ⌝ }
 {
-    let a = write_field(number, out, at);
-    let b = write_field(parent, out, a);
+    let a = write_field(n.number, out, at);
+    let b = write_field(r.number, out, a);
     let c = copy(content, out, b);
     let next = c + 1;
     out[c] = LF;

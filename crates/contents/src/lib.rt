@@ -16,6 +16,7 @@ use facts::TEXTS;
 use facts::field;
 use facts::field_on;
 use facts::line_of;
+use rules::record::Record;
 ghost use mathlib.Core.Path.{_≡_};
 ghost use mathlib.Core.List.{map};
 ghost use Prim.Native.Nat.{_+_, _<_, _≤_};
@@ -106,11 +107,11 @@ fn field_in(
     lines: &[[u16; NUMBERS]; TABLES],
     facts: &[[u32; FACTS]; TABLES],
     t: usize,
-    n: u32,
+    n: Record,
     i: usize,
 ) -> u32
     requires { ⌜ (t < TABLES) × (i < WIDTH) ⌝ }
-    ensures { λ z. ⌜ z ≡ fieldIn (now (lines .entry)) (now (facts .entry)) t n i ⌝ }
+    ensures { λ z. ⌜ z ≡ fieldIn (now (lines .entry)) (now (facts .entry)) t (n .number) i ⌝ }
 {
     field(&lines[t], &facts[t], n, i)
 }
@@ -136,10 +137,10 @@ fn content<'a>(
     lines: &[[u16; NUMBERS]; TABLES],
     facts: &[[u32; FACTS]; TABLES],
     t: usize,
-    n: u32,
+    n: Record,
 ) -> &'a [u8]
     requires { ⌜ (t < TABLES) × (length (now texts) ≡ TABLES) ⌝ }
-    ensures { λ r. ⌜ now r ≡ tell (map now (now (texts .entry))) (now (lines .entry)) (now (facts .entry)) t .content n ⌝ }
+    ensures { λ r. ⌜ now r ≡ tell (map now (now (texts .entry))) (now (lines .entry)) (now (facts .entry)) t .content (n .number) ⌝ }
 {
     let l = line_of(&lines[t], n);
     content_on(texts, facts, t, l)
@@ -152,12 +153,12 @@ fn same_in<'a>(
     facts: &[[u32; FACTS]; TABLES],
     t: usize,
     k: usize,
-    n: u32,
+    n: Record,
 ) -> bool
     requires { ⌜ (t < TABLES) × ((k < TABLES) × (length (now texts) ≡ TABLES)) ⌝ }
     ensures { λ z.
-        ⌜ z ≡ sameContent (tell (map now (now (texts .entry))) (now (lines .entry)) (now (facts .entry)) t .content n)
-        (tell (map now (now (texts .entry))) (now (lines .entry)) (now (facts .entry)) k .content n) ⌝ }
+        ⌜ z ≡ sameContent (tell (map now (now (texts .entry))) (now (lines .entry)) (now (facts .entry)) t .content (n .number))
+        (tell (map now (now (texts .entry))) (now (lines .entry)) (now (facts .entry)) k .content (n .number)) ⌝ }
 {
     let a = content(texts, lines, facts, t, n);
     let b = content(texts, lines, facts, k, n);
@@ -172,10 +173,14 @@ struct Source {
     origin: usize,
 }
 
-fn content_source(lines: &[[u16; NUMBERS]; TABLES], marks: &[[u8; ROOM]; TABLES], n: u32) -> Source
-    ensures { λ z. ⌜ z .table ≡ firstBranch (λ k. editedIn (now (lines .entry)) (now (marks .entry)) k n) ⌝ }
+fn content_source(
+    lines: &[[u16; NUMBERS]; TABLES],
+    marks: &[[u8; ROOM]; TABLES],
+    n: Record,
+) -> Source
+    ensures { λ z. ⌜ z .table ≡ firstBranch (λ k. editedIn (now (lines .entry)) (now (marks .entry)) k (n .number)) ⌝ }
     ensures { λ z. ⌜ z .table < TABLES ⌝ }
-    ensures { λ z. ⌜ z .origin ≡ sumBranches (λ k. editedIn (now (lines .entry)) (now (marks .entry)) k n) ⌝ }
+    ensures { λ z. ⌜ z .origin ≡ sumBranches (λ k. editedIn (now (lines .entry)) (now (marks .entry)) k (n .number)) ⌝ }
     ensures { λ z. ⌜ z .origin ≤ 3 ⌝ }
 {
     let mut table: usize = 0;
@@ -202,11 +207,11 @@ fn two_contents<'a>(
     facts: &[[u32; FACTS]; TABLES],
     marks: &[[u8; ROOM]; TABLES],
     t: usize,
-    n: u32,
+    n: Record,
 ) -> bool
     requires { ⌜ ((0 < t) × (t < TABLES)) × (length (now texts) ≡ TABLES) ⌝ }
     requires { ⌜ Noted (map now (now texts)) (now lines) (now facts) (now marks) ⌝ }
-    ensures { λ z. ⌜ z ≡ twoContents (tell (map now (now (texts .entry))) (now (lines .entry)) (now (facts .entry))) t n ⌝ }
+    ensures { λ z. ⌜ z ≡ twoContents (tell (map now (now (texts .entry))) (now (lines .entry)) (now (facts .entry))) t (n .number) ⌝ }
 {
     if edited(lines, marks, t, n) {
         let source = content_source(lines, marks, n);
@@ -226,11 +231,11 @@ pub fn content_place<'a>(
     facts: &[[u32; FACTS]; TABLES],
     marks: &[[u8; ROOM]; TABLES],
     t: usize,
-    n: u32,
+    n: Record,
 ) -> u32
     requires { ⌜ ((0 < t) × (t < TABLES)) × (length (now texts) ≡ TABLES) ⌝ }
     requires { ⌜ Noted (map now (now texts)) (now lines) (now facts) (now marks) ⌝ }
-    ensures { λ z. ⌜ z ≡ contentPlace (tell (map now (now (texts .entry))) (now (lines .entry)) (now (facts .entry))) t n ⌝ }
+    ensures { λ z. ⌜ z ≡ contentPlace (tell (map now (now (texts .entry))) (now (lines .entry)) (now (facts .entry))) t (n .number) ⌝ }
 {
     let test = two_contents(texts, lines, facts, marks, t, n);
     place(test, n)
@@ -250,11 +255,11 @@ pub fn kept_content<'a>(
     lines: &[[u16; NUMBERS]; TABLES],
     facts: &[[u32; FACTS]; TABLES],
     marks: &[[u8; ROOM]; TABLES],
-    n: u32,
+    n: Record,
 ) -> Kept
     requires { ⌜ Noted (map now (now texts)) (now lines) (now facts) (now marks) ⌝ }
-    ensures { λ z. ⌜ z .place ≡ keptPlace (map now (now (texts .entry))) (now (lines .entry)) (now (facts .entry)) n ⌝ }
-    ensures { λ z. ⌜ z .length ≡ keptLength (map now (now (texts .entry))) (now (lines .entry)) (now (facts .entry)) n ⌝ }
+    ensures { λ z. ⌜ z .place ≡ keptPlace (map now (now (texts .entry))) (now (lines .entry)) (now (facts .entry)) (n .number) ⌝ }
+    ensures { λ z. ⌜ z .length ≡ keptLength (map now (now (texts .entry))) (now (lines .entry)) (now (facts .entry)) (n .number) ⌝ }
 {
     let source = content_source(lines, marks, n);
     let k = source.table;

@@ -10,6 +10,7 @@ use facts::NUMBERS;
 use facts::ROOM;
 use facts::TABLES;
 use facts::line_of;
+use rules::record::Record;
 ghost use mathlib.Core.Path.{_≡_};
 ghost use mathlib.Core.List.{[], map};
 ghost use Prim.Native.Nat.{ℕ, _<_};
@@ -160,10 +161,10 @@ pub fn edited(
     lines: &[[u16; NUMBERS]; TABLES],
     marks: &[[u8; ROOM]; TABLES],
     t: usize,
-    n: u32,
+    n: Record,
 ) -> bool
     requires { ⌜ t < TABLES ⌝ }
-    ensures { λ z. ⌜ z ≡ editedIn (now (lines .entry)) (now (marks .entry)) t n ⌝ }
+    ensures { λ z. ⌜ z ≡ editedIn (now (lines .entry)) (now (marks .entry)) t (n .number) ⌝ }
 {
     let l = line_of(&lines[t], n);
     marks[t][l] % 2 == 1

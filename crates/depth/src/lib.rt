@@ -1,10 +1,9 @@
 // The depth of records, by climbing: a record's depth is one more than its parent's, and its parent stands on an earlier line.
 use facts::FACTS;
 use facts::NUMBERS;
-use facts::PARENT;
 use facts::ROOM;
-use facts::field_on;
 use facts::line_of;
+use facts::parent_on;
 use facts::wide;
 ghost use mathlib.Core.Path.{_≡_};
 ghost use Prim.Native.Nat.{max, _≤_};
@@ -23,7 +22,7 @@ fn up_line(lines: &[u16; NUMBERS], facts: &[u32; FACTS], l: usize) -> usize
     requires { ⌜ Climbs (now lines) (now facts) l ⌝ }
     ensures { λ r. ⌜ r ≡ upLine (now (lines .entry)) (now (facts .entry)) l ⌝ }
 {
-    let parent = field_on(facts, l, PARENT);
+    let parent = parent_on(facts, l);
     line_of(lines, parent)
 }
 

@@ -6,7 +6,7 @@ use Prim.Native.Nat.{ℕ, suc, _+_, _-_, _<_, _≤_, min}
 use native.Mathlib.Omega.{arith}
 use native.Mathlib.Numerals.{add-one}
 use lib.Dec.{eqb, ltb}
-use borrow.Author.Tests.{lt-ltb, eq-eqb, ne-eqb}
+use borrow.Author.Tests.{lt-ltb, eqb-true, eqb-false, eq-eqb, ne-eqb}
 use borrow.Author.Needs.{needs}
 use Rattle.rules.specs.Marks.{TOP, isRecord}
 use Rattle.facts.specs.Memory.{TABLES}
@@ -29,11 +29,11 @@ or-then A B z w e t f = rw (← e, t) f
 pub or-stop : (A B z : Bool) → z ≡ A → z ≡ true → true ≡ (A || B)
 or-stop A B z e t = rw (← e, t)
 
-pub fresh-none : (o s : ℕ) → s ≡ 0 → false ≡ fresh o s
-fresh-none o s e = rw (e)
+pub fresh-none : (o s : ℕ) (y : Bool) → y ≡ true → y ≡ eqb s 0 → false ≡ fresh o s
+fresh-none o s y t e = let z : s ≡ 0 = eqb-true s 0 (sym e ∙ t) in rw (z)
 
-pub fresh-else : (o s : ℕ) → (s ≡ 0 → ⊥) → not (eqb s o) ≡ fresh o s
-fresh-else o s e = rw (lt-ltb 0 s (omega (arith, e)))
+pub fresh-else : (o s : ℕ) (y : Bool) → y ≡ false → y ≡ eqb s 0 → not (eqb s o) ≡ fresh o s
+fresh-else o s y t e = let z : s ≡ 0 → ⊥ = eqb-false s 0 (sym e ∙ t) in rw (lt-ltb 0 s (omega (arith, z)))
 
 pub fresh-of : (a b o s : ℕ) (z : Bool) → o ≡ a → s ≡ b → z ≡ fresh o s → z ≡ fresh a b
 fresh-of a b o s z e f g = g ∙ (λ i. fresh (e i) (f i))

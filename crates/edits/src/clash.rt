@@ -24,11 +24,12 @@ ghost use Rattle.edits.specs.Positions.{twoFollowers, twoForerunners, tw
 fn after_source(
     lines: &[[u16; NUMBERS]; TABLES],
     facts: &[[u32; FACTS]; TABLES],
-    r: u32,
-    p: u32,
-    o: u32,
+    r: Record,
+    p: Record,
+    o: Record,
 ) -> usize
-    ensures { λ z. ⌜ z ≡ firstBranch (λ k. fresh o (ask (now (lines .entry)) (now (facts .entry)) k .after r p)) ⌝ }
+    ensures { λ z.
+        ⌜ z ≡ firstBranch (λ k. fresh (o .number) (ask (now (lines .entry)) (now (facts .entry)) k .after (r .number) (p .number))) ⌝ }
     ensures { λ z. ⌜ z < TABLES ⌝ }
 {
     let mut t: usize = 1;
@@ -45,11 +46,12 @@ fn after_source(
 fn before_source(
     lines: &[[u16; NUMBERS]; TABLES],
     facts: &[[u32; FACTS]; TABLES],
-    r: u32,
-    s: u32,
-    o: u32,
+    r: Record,
+    s: Record,
+    o: Record,
 ) -> usize
-    ensures { λ z. ⌜ z ≡ firstBranch (λ k. fresh o (ask (now (lines .entry)) (now (facts .entry)) k .before r s)) ⌝ }
+    ensures { λ z.
+        ⌜ z ≡ firstBranch (λ k. fresh (o .number) (ask (now (lines .entry)) (now (facts .entry)) k .before (r .number) (s .number))) ⌝ }
     ensures { λ z. ⌜ z < TABLES ⌝ }
 {
     let mut t: usize = 1;
@@ -63,8 +65,12 @@ fn before_source(
     0
 }
 
-fn parent_source(lines: &[[u16; NUMBERS]; TABLES], facts: &[[u32; FACTS]; TABLES], n: u32) -> usize
-    ensures { λ z. ⌜ z ≡ parentSource (ask (now (lines .entry)) (now (facts .entry))) n ⌝ }
+fn parent_source(
+    lines: &[[u16; NUMBERS]; TABLES],
+    facts: &[[u32; FACTS]; TABLES],
+    n: Record,
+) -> usize
+    ensures { λ z. ⌜ z ≡ parentSource (ask (now (lines .entry)) (now (facts .entry))) (n .number) ⌝ }
     ensures { λ z. ⌜ z < TABLES ⌝ }
 {
     let mut t: usize = 1;
@@ -83,18 +89,18 @@ fn two_followers(
     lines: &[[u16; NUMBERS]; TABLES],
     facts: &[[u32; FACTS]; TABLES],
     t: usize,
-    r: u32,
-    p: u32,
+    r: Record,
+    p: Record,
 ) -> bool
     requires { ⌜ t < TABLES ⌝ }
-    ensures { λ z. ⌜ z ≡ twoFollowers (ask (now (lines .entry)) (now (facts .entry))) t r p ⌝ }
+    ensures { λ z. ⌜ z ≡ twoFollowers (ask (now (lines .entry)) (now (facts .entry))) t (r .number) (p .number) ⌝ }
 {
     let o = follower_in(lines, facts, 0, r, p);
     let s = follower_in(lines, facts, t, r, p);
     if fresh(o, s) {
         let k = after_source(lines, facts, r, p, o);
         let u = follower_in(lines, facts, k, r, p);
-        return s != u;
+        return s.number != u.number;
     }
     false
 }
@@ -103,18 +109,18 @@ fn two_forerunners(
     lines: &[[u16; NUMBERS]; TABLES],
     facts: &[[u32; FACTS]; TABLES],
     t: usize,
-    r: u32,
-    s: u32,
+    r: Record,
+    s: Record,
 ) -> bool
     requires { ⌜ t < TABLES ⌝ }
-    ensures { λ z. ⌜ z ≡ twoForerunners (ask (now (lines .entry)) (now (facts .entry))) t r s ⌝ }
+    ensures { λ z. ⌜ z ≡ twoForerunners (ask (now (lines .entry)) (now (facts .entry))) t (r .number) (s .number) ⌝ }
 {
     let o = forerunner_in(lines, facts, 0, r, s);
     let p = forerunner_in(lines, facts, t, r, s);
     if fresh(o, p) {
         let k = before_source(lines, facts, r, s, o);
         let u = forerunner_in(lines, facts, k, r, s);
-        return p != u;
+        return p.number != u.number;
     }
     false
 }
@@ -123,16 +129,16 @@ fn two_parents(
     lines: &[[u16; NUMBERS]; TABLES],
     facts: &[[u32; FACTS]; TABLES],
     t: usize,
-    n: u32,
+    n: Record,
 ) -> bool
     requires { ⌜ t < TABLES ⌝ }
-    ensures { λ z. ⌜ z ≡ twoParents (ask (now (lines .entry)) (now (facts .entry))) t n ⌝ }
+    ensures { λ z. ⌜ z ≡ twoParents (ask (now (lines .entry)) (now (facts .entry))) t (n .number) ⌝ }
 {
     if claims(lines, facts, t, n) {
         let k = parent_source(lines, facts, n);
         let a = parent_in(lines, facts, t, n);
         let b = parent_in(lines, facts, k, n);
-        return a != b;
+        return a.number != b.number;
     }
     false
 }
@@ -142,12 +148,12 @@ fn torn(
     lines: &[[u16; NUMBERS]; TABLES],
     facts: &[[u32; FACTS]; TABLES],
     t: usize,
-    r: u32,
-    p: u32,
-    s: u32,
+    r: Record,
+    p: Record,
+    s: Record,
 ) -> bool
     requires { ⌜ t < TABLES ⌝ }
-    ensures { λ z. ⌜ z ≡ torn (ask (now (lines .entry)) (now (facts .entry))) t r p s ⌝ }
+    ensures { λ z. ⌜ z ≡ torn (ask (now (lines .entry)) (now (facts .entry))) t (r .number) (p .number) (s .number) ⌝ }
 {
     if two_followers(lines, facts, t, r, p) {
         return true;
@@ -160,10 +166,10 @@ pub fn parent_place(
     lines: &[[u16; NUMBERS]; TABLES],
     facts: &[[u32; FACTS]; TABLES],
     t: usize,
-    n: u32,
+    n: Record,
 ) -> u32
     requires { ⌜ t < TABLES ⌝ }
-    ensures { λ z. ⌜ z ≡ parentPlace (ask (now (lines .entry)) (now (facts .entry))) t n ⌝ }
+    ensures { λ z. ⌜ z ≡ parentPlace (ask (now (lines .entry)) (now (facts .entry))) t (n .number) ⌝ }
 {
     let test = two_parents(lines, facts, t, n);
     place(test, n)
@@ -174,14 +180,14 @@ pub fn neighbour_place(
     lines: &[[u16; NUMBERS]; TABLES],
     facts: &[[u32; FACTS]; TABLES],
     t: usize,
-    n: u32,
+    n: Record,
 ) -> u32
     requires { ⌜ t < TABLES ⌝ }
-    ensures { λ z. ⌜ z ≡ neighbourPlace (ask (now (lines .entry)) (now (facts .entry))) t n ⌝ }
+    ensures { λ z. ⌜ z ≡ neighbourPlace (ask (now (lines .entry)) (now (facts .entry))) t (n .number) ⌝ }
 {
     let r = parent_in(lines, facts, t, n);
     let beside = torn(lines, facts, t, r, n, n);
-    let within = torn(lines, facts, t, n, Record::START.number, Record::END.number);
+    let within = torn(lines, facts, t, n, Record::start(), Record::end());
     let a = place(beside, r);
     let b = place(within, n);
     smaller(a, b)

@@ -1,6 +1,6 @@
 // Positions of the tables side by side: which facts are edits, where two edits clash, and who follows by the kept facts. Table 0 is
-// old, the others are the branches. All of it is asked of one table at a time; 0 is the answer "none". n is a record, r a parent, p the
-// one before, s the one after, o what old answers, or a line of old; t is a table, l a line, i a line or a field.
+// old, the others are the branches. All of it is asked of one table at a time. n is a record, r a parent, p the one before, s the one
+// after, o what old answers, or a line of old; t is a table, l a line, i a line or a field.
 pub mod clash;
 
 use facts::FACTS;
@@ -51,17 +51,17 @@ pub fn smaller(a: u32, b: u32) -> u32
 }
 
 // `n`, if the test says that it is a place.
-pub fn place(test: bool, n: u32) -> u32
-    ensures { λ r. ⌜ r ≡ place test n ⌝ }
+pub fn place(test: bool, n: Record) -> u32
+    ensures { λ r. ⌜ r ≡ place test (n .number) ⌝ }
 {
-    if test { n } else { NONE }
+    if test { n.number } else { NONE }
 }
 
 // ---- the tables
 
-fn has_in(lines: &[[u16; NUMBERS]; TABLES], t: usize, n: u32) -> bool
+fn has_in(lines: &[[u16; NUMBERS]; TABLES], t: usize, n: Record) -> bool
     requires { ⌜ t < TABLES ⌝ }
-    ensures { λ z. ⌜ z ≡ hasIn (getD (now (lines .entry)) t []) n ⌝ }
+    ensures { λ z. ⌜ z ≡ hasIn (getD (now (lines .entry)) t []) (n .number) ⌝ }
 {
     has(&lines[t], n)
 }
@@ -70,10 +70,10 @@ pub fn parent_in(
     lines: &[[u16; NUMBERS]; TABLES],
     facts: &[[u32; FACTS]; TABLES],
     t: usize,
-    n: u32,
-) -> u32
+    n: Record,
+) -> Record
     requires { ⌜ t < TABLES ⌝ }
-    ensures { λ z. ⌜ z ≡ ask (now (lines .entry)) (now (facts .entry)) t .up n ⌝ }
+    ensures { λ z. ⌜ z .number ≡ ask (now (lines .entry)) (now (facts .entry)) t .up (n .number) ⌝ }
 {
     parent(&lines[t], &facts[t], n)
 }
@@ -82,11 +82,11 @@ pub fn follower_in(
     lines: &[[u16; NUMBERS]; TABLES],
     facts: &[[u32; FACTS]; TABLES],
     t: usize,
-    r: u32,
-    p: u32,
-) -> u32
+    r: Record,
+    p: Record,
+) -> Record
     requires { ⌜ t < TABLES ⌝ }
-    ensures { λ z. ⌜ z ≡ ask (now (lines .entry)) (now (facts .entry)) t .after r p ⌝ }
+    ensures { λ z. ⌜ z .number ≡ ask (now (lines .entry)) (now (facts .entry)) t .after (r .number) (p .number) ⌝ }
 {
     follower(&lines[t], &facts[t], r, p)
 }
@@ -95,19 +95,19 @@ fn forerunner_in(
     lines: &[[u16; NUMBERS]; TABLES],
     facts: &[[u32; FACTS]; TABLES],
     t: usize,
-    r: u32,
-    s: u32,
-) -> u32
+    r: Record,
+    s: Record,
+) -> Record
     requires { ⌜ t < TABLES ⌝ }
-    ensures { λ z. ⌜ z ≡ ask (now (lines .entry)) (now (facts .entry)) t .before r s ⌝ }
+    ensures { λ z. ⌜ z .number ≡ ask (now (lines .entry)) (now (facts .entry)) t .before (r .number) (s .number) ⌝ }
 {
     forerunner(&lines[t], &facts[t], r, s)
 }
 
 // The number on a line of a table.
-pub fn number_in(facts: &[[u32; FACTS]; TABLES], t: usize, i: usize) -> u32
+pub fn number_in(facts: &[[u32; FACTS]; TABLES], t: usize, i: usize) -> Record
     requires { ⌜ (t < TABLES) × (i < ROOM) ⌝ }
-    ensures { λ z. ⌜ z ≡ numberOn (now (facts .entry)) t i ⌝ }
+    ensures { λ z. ⌜ z .number ≡ numberOn (now (facts .entry)) t i ⌝ }
 {
     number_on(&facts[t], i)
 }
@@ -135,24 +135,24 @@ pub fn alike_lines(facts: &[u32; FACTS], old: &[u32; FACTS], l: usize, o: usize)
 // ---- edits
 
 // Somebody stands there, and it is not whom old has there.
-pub fn fresh(o: u32, s: u32) -> bool
-    ensures { λ z. ⌜ z ≡ fresh o s ⌝ }
+pub fn fresh(o: Record, s: Record) -> bool
+    ensures { λ z. ⌜ z ≡ fresh (o .number) (s .number) ⌝ }
 {
-    if s == 0 {
+    if s.is_nobody() {
         return false;
     }
-    s != o
+    s.number != o.number
 }
 
 fn fresh_after(
     lines: &[[u16; NUMBERS]; TABLES],
     facts: &[[u32; FACTS]; TABLES],
     t: usize,
-    r: u32,
-    p: u32,
+    r: Record,
+    p: Record,
 ) -> bool
     requires { ⌜ t < TABLES ⌝ }
-    ensures { λ z. ⌜ z ≡ freshAfter (ask (now (lines .entry)) (now (facts .entry))) t r p ⌝ }
+    ensures { λ z. ⌜ z ≡ freshAfter (ask (now (lines .entry)) (now (facts .entry))) t (r .number) (p .number) ⌝ }
 {
     let o = follower_in(lines, facts, 0, r, p);
     let s = follower_in(lines, facts, t, r, p);
@@ -163,11 +163,11 @@ fn fresh_before(
     lines: &[[u16; NUMBERS]; TABLES],
     facts: &[[u32; FACTS]; TABLES],
     t: usize,
-    r: u32,
-    s: u32,
+    r: Record,
+    s: Record,
 ) -> bool
     requires { ⌜ t < TABLES ⌝ }
-    ensures { λ z. ⌜ z ≡ freshBefore (ask (now (lines .entry)) (now (facts .entry))) t r s ⌝ }
+    ensures { λ z. ⌜ z ≡ freshBefore (ask (now (lines .entry)) (now (facts .entry))) t (r .number) (s .number) ⌝ }
 {
     let o = forerunner_in(lines, facts, 0, r, s);
     let p = forerunner_in(lines, facts, t, r, s);
@@ -179,11 +179,11 @@ fn fresh_beside(
     lines: &[[u16; NUMBERS]; TABLES],
     facts: &[[u32; FACTS]; TABLES],
     t: usize,
-    r: u32,
-    n: u32,
+    r: Record,
+    n: Record,
 ) -> bool
     requires { ⌜ t < TABLES ⌝ }
-    ensures { λ z. ⌜ z ≡ freshBeside (ask (now (lines .entry)) (now (facts .entry))) t r n ⌝ }
+    ensures { λ z. ⌜ z ≡ freshBeside (ask (now (lines .entry)) (now (facts .entry))) t (r .number) (n .number) ⌝ }
 {
     if fresh_after(lines, facts, t, r, n) {
         return true;
@@ -196,10 +196,10 @@ fn claims(
     lines: &[[u16; NUMBERS]; TABLES],
     facts: &[[u32; FACTS]; TABLES],
     t: usize,
-    n: u32,
+    n: Record,
 ) -> bool
     requires { ⌜ t < TABLES ⌝ }
-    ensures { λ z. ⌜ z ≡ claims (ask (now (lines .entry)) (now (facts .entry))) t n ⌝ }
+    ensures { λ z. ⌜ z ≡ claims (ask (now (lines .entry)) (now (facts .entry))) t (n .number) ⌝ }
 {
     if has_in(lines, t, n) {
         let r = parent_in(lines, facts, t, n);
@@ -211,20 +211,19 @@ fn claims(
 // ---- kept facts
 
 // A record is known where it is; START and END are where the list is.
-fn knows(lines: &[u16; NUMBERS], r: u32, n: u32) -> bool
-    ensures { λ z. ⌜ z ≡ knows (hasIn (now (lines .entry))) r n ⌝ }
+fn knows(lines: &[u16; NUMBERS], r: Record, n: Record) -> bool
+    ensures { λ z. ⌜ z ≡ knows (hasIn (now (lines .entry))) (r .number) (n .number) ⌝ }
 {
-    let known = Record { number: n };
-    if known.is_record() {
+    if n.is_record() {
         return has(lines, n);
     }
     list(lines, r)
 }
 
 // The table knows neither `p` nor `s` under `r`.
-fn unknown(lines: &[[u16; NUMBERS]; TABLES], t: usize, r: u32, p: u32, s: u32) -> bool
+fn unknown(lines: &[[u16; NUMBERS]; TABLES], t: usize, r: Record, p: Record, s: Record) -> bool
     requires { ⌜ t < TABLES ⌝ }
-    ensures { λ z. ⌜ z ≡ unknown (hasIn (getD (now (lines .entry)) t [])) r p s ⌝ }
+    ensures { λ z. ⌜ z ≡ unknown (hasIn (getD (now (lines .entry)) t [])) (r .number) (p .number) (s .number) ⌝ }
 {
     if knows(&lines[t], r, p) {
         return false;
@@ -236,17 +235,19 @@ fn unknown(lines: &[[u16; NUMBERS]; TABLES], t: usize, r: u32, p: u32, s: u32) -
 fn still_kept(
     lines: &[[u16; NUMBERS]; TABLES],
     t: usize,
-    r: u32,
-    p: u32,
-    o: u32,
-    s: u32,
+    r: Record,
+    p: Record,
+    o: Record,
+    s: Record,
     kept: bool,
 ) -> bool
     requires { ⌜ t < TABLES ⌝ }
-    ensures { λ z. ⌜ z ≡ (kept && (eqb s o || unknown (hasIn (getD (now (lines .entry)) t [])) r p o)) ⌝ }
+    ensures { λ z.
+        ⌜ z ≡ (kept && (eqb (s .number) (o .number)
+        || unknown (hasIn (getD (now (lines .entry)) t [])) (r .number) (p .number) (o .number))) ⌝ }
 {
     if kept {
-        if s == o {
+        if s.number == o.number {
             return true;
         }
         return unknown(lines, t, r, p, o);
@@ -254,15 +255,15 @@ fn still_kept(
     false
 }
 
-// Who follows `p` under `r` by the kept facts; 0 if no kept fact goes on. The first branch's edit, or else old's fact, if each branch has
-// it or knows neither of its ends.
+// Who follows `p` under `r` by the kept facts; nobody, if no kept fact goes on. The first branch's edit, or else old's fact, if each branch
+// has it or knows neither of its ends.
 pub fn kept_after(
     lines: &[[u16; NUMBERS]; TABLES],
     facts: &[[u32; FACTS]; TABLES],
-    r: u32,
-    p: u32,
-) -> u32
-    ensures { λ z. ⌜ z ≡ keptAfter (ask (now (lines .entry)) (now (facts .entry))) r p ⌝ }
+    r: Record,
+    p: Record,
+) -> Record
+    ensures { λ z. ⌜ z .number ≡ keptAfter (ask (now (lines .entry)) (now (facts .entry))) (r .number) (p .number) ⌝ }
 {
     let o = follower_in(lines, facts, 0, r, p);
     let mut kept = true;
@@ -275,5 +276,5 @@ pub fn kept_after(
         kept = still_kept(lines, t, r, p, o, s, kept);
         t += 1;
     }
-    if kept { o } else { 0 }
+    if kept { o } else { Record::NOBODY }
 }

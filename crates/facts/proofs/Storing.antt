@@ -1,25 +1,27 @@
 -- What each store leaves, way by way through its code. ls and fs are the two arrays, f, g and h the array of facts at three moments; n
--- is a record, r a parent, p the one before, k a field, l a line, v what is stored. Assumes nothing.
+-- is a record, r a parent, p the one before, k a field, l a line, v what is stored, y what
+-- was tested. Assumes nothing.
 use mathlib.Core.Path.{_≡_, ap, _∙_}
+use mathlib.Core.Bool.{Bool, true, false}
 use mathlib.Core.List.{List}
 use Prim.Native.Nat.{ℕ, _+_, _*_}
+use lib.Dec.{eqb}
 use lib.ListN.{set}
 use borrow.Author.Needs.{needs}
-use borrow.Author.Tests.{ne-eqb}
 use Rattle.rules.specs.Marks.{START}
 use Rattle.facts.specs.Memory.{WIDTH, FOLLOWER, FIRST, LAST, lineAt, who, way, laid, putField, addFacts}
 
-pub who-start : (r p : ℕ) → p ≡ START → r ≡ who r p
-who-start r p e = rw (e)
+pub who-start : (r p : ℕ) (y : Bool) → y ≡ true → y ≡ eqb p START → r ≡ who r p
+who-start r p y t e = rw (← e, t)
 
-pub who-record : (r p : ℕ) → (p ≡ START → ⊥) → p ≡ who r p
-who-record r p e = rw (ne-eqb p START e)
+pub who-record : (r p : ℕ) (y : Bool) → y ≡ false → y ≡ eqb p START → p ≡ who r p
+who-record r p y t e = rw (← e, t)
 
-pub way-start : (p : ℕ) → p ≡ START → FIRST ≡ way p
-way-start p e = rw (e)
+pub way-start : (p : ℕ) (y : Bool) → y ≡ true → y ≡ eqb p START → FIRST ≡ way p
+way-start p y t e = rw (← e, t)
 
-pub way-record : (p : ℕ) → (p ≡ START → ⊥) → FOLLOWER ≡ way p
-way-record p e = rw (ne-eqb p START e)
+pub way-record : (p : ℕ) (y : Bool) → y ≡ false → y ≡ eqb p START → FOLLOWER ≡ way p
+way-record p y t e = rw (← e, t)
 
 pub put-is : (ls fs : List ℕ) (n k v l : ℕ) → l ≡ lineAt ls n → set fs (l * WIDTH + k) v ≡ putField ls fs n k v
 put-is ls fs n k v l e = ap (λ (i : ℕ). set fs (i * WIDTH + k) v) e

@@ -1,6 +1,7 @@
 // One table in memory, in two flat arrays that are lent: `lines` gives a number its line, `facts` gives a line its eight fields.
 // Line 0 is the top's, so the top is read like a record. Each question takes a fixed number of loads, and one line more a fixed number
-// of loads and stores. n is a record, r a parent, p the one before, s the one after, l a line, k a field.
+// of loads and stores. n is a record, r a parent, p the one before, s the one after, l a line, k a field. The
+// arrays hold bare numbers; outside them a number has its own type.
 use rules::record::Record;
 ghost use mathlib.Core.Path.{_≡_};
 ghost use mathlib.Core.List.{[], _∷_};
@@ -101,12 +102,12 @@ pub fn width(facts: &[u32; FACTS])
 // ---- what is read
 
 // the line of a number; 0 for the top, and for a number that is absent
-pub fn line_of(lines: &[u16; NUMBERS], n: u32) -> usize
-    ensures { λ r. ⌜ r ≡ lineAt (now (lines .entry)) n ⌝ }
+pub fn line_of(lines: &[u16; NUMBERS], n: Record) -> usize
+    ensures { λ r. ⌜ r ≡ lineAt (now (lines .entry)) (n .number) ⌝ }
     ensures { λ r. ⌜ r < ROOM ⌝ }
 {
     column(lines);
-    let i = n as usize;
+    let i = n.number as usize;
     if i < NUMBERS {
         let l = wide(lines[i]);
         if l < ROOM {
@@ -117,12 +118,20 @@ pub fn line_of(lines: &[u16; NUMBERS], n: u32) -> usize
 }
 
 // a field of a record's line
-pub fn field(lines: &[u16; NUMBERS], facts: &[u32; FACTS], n: u32, k: usize) -> u32
+pub fn field(lines: &[u16; NUMBERS], facts: &[u32; FACTS], n: Record, k: usize) -> u32
     requires { ⌜ k < WIDTH ⌝ }
-    ensures { λ r. ⌜ r ≡ field (now (lines .entry)) (now (facts .entry)) n k ⌝ }
+    ensures { λ r. ⌜ r ≡ field (now (lines .entry)) (now (facts .entry)) (n .number) k ⌝ }
 {
     let l = line_of(lines, n);
     facts[l * WIDTH + k]
+}
+
+// the record, or the mark, in a field of a record's line
+pub fn record_in(lines: &[u16; NUMBERS], facts: &[u32; FACTS], n: Record, k: usize) -> Record
+    requires { ⌜ k < WIDTH ⌝ }
+    ensures { λ r. ⌜ r .number ≡ field (now (lines .entry)) (now (facts .entry)) (n .number) k ⌝ }
+{
+    Record::new(field(lines, facts, n, k))
 }
 
 // a field of a line
@@ -134,79 +143,87 @@ pub fn field_on(facts: &[u32; FACTS], l: usize, k: usize) -> u32
 }
 
 // the number on a line
-pub fn number_on(facts: &[u32; FACTS], l: usize) -> u32
+pub fn number_on(facts: &[u32; FACTS], l: usize) -> Record
     requires { ⌜ l < ROOM ⌝ }
-    ensures { λ r. ⌜ r ≡ fieldOn (now (facts .entry)) l NUMBER ⌝ }
+    ensures { λ r. ⌜ r .number ≡ fieldOn (now (facts .entry)) l NUMBER ⌝ }
 {
-    field_on(facts, l, NUMBER)
+    Record::new(field_on(facts, l, NUMBER))
+}
+
+// the parent of the record on a line
+pub fn parent_on(facts: &[u32; FACTS], l: usize) -> Record
+    requires { ⌜ l < ROOM ⌝ }
+    ensures { λ r. ⌜ r .number ≡ fieldOn (now (facts .entry)) l PARENT ⌝ }
+{
+    Record::new(field_on(facts, l, PARENT))
 }
 
 // ---- the questions
 
 // whether the record is there
-pub fn has(lines: &[u16; NUMBERS], n: u32) -> bool
-    ensures { λ z. ⌜ z ≡ hasIn (now (lines .entry)) n ⌝ }
+pub fn has(lines: &[u16; NUMBERS], n: Record) -> bool
+    ensures { λ z. ⌜ z ≡ hasIn (now (lines .entry)) (n .number) ⌝ }
 {
     let l = line_of(lines, n);
     0 < l
 }
 
 // a record has a list, and so has the top
-pub fn list(lines: &[u16; NUMBERS], r: u32) -> bool
-    ensures { λ z. ⌜ z ≡ listIn (now (lines .entry)) r ⌝ }
+pub fn list(lines: &[u16; NUMBERS], r: Record) -> bool
+    ensures { λ z. ⌜ z ≡ listIn (now (lines .entry)) (r .number) ⌝ }
 {
-    if r == Record::TOP.number {
+    if r.is_top() {
         return true;
     }
     has(lines, r)
 }
 
 // whether `n` is a child of `r`
-pub fn child(lines: &[u16; NUMBERS], facts: &[u32; FACTS], r: u32, n: u32) -> bool
-    ensures { λ z. ⌜ z ≡ childIn (now (lines .entry)) (now (facts .entry)) r n ⌝ }
+pub fn child(lines: &[u16; NUMBERS], facts: &[u32; FACTS], r: Record, n: Record) -> bool
+    ensures { λ z. ⌜ z ≡ childIn (now (lines .entry)) (now (facts .entry)) (r .number) (n .number) ⌝ }
 {
     if has(lines, n) {
-        return field(lines, facts, n, PARENT) == r;
+        return field(lines, facts, n, PARENT) == r.number;
     }
     false
 }
 
-pub fn parent(lines: &[u16; NUMBERS], facts: &[u32; FACTS], n: u32) -> u32
-    ensures { λ z. ⌜ z ≡ asked (now (lines .entry)) (now (facts .entry)) .up n ⌝ }
+pub fn parent(lines: &[u16; NUMBERS], facts: &[u32; FACTS], n: Record) -> Record
+    ensures { λ z. ⌜ z .number ≡ asked (now (lines .entry)) (now (facts .entry)) .up (n .number) ⌝ }
 {
-    field(lines, facts, n, PARENT)
+    record_in(lines, facts, n, PARENT)
 }
 
-// who follows `p` under `r`; 0 if nobody does
-pub fn follower(lines: &[u16; NUMBERS], facts: &[u32; FACTS], r: u32, p: u32) -> u32
-    ensures { λ z. ⌜ z ≡ asked (now (lines .entry)) (now (facts .entry)) .after r p ⌝ }
+// who follows `p` under `r`; nobody, if none does
+pub fn follower(lines: &[u16; NUMBERS], facts: &[u32; FACTS], r: Record, p: Record) -> Record
+    ensures { λ z. ⌜ z .number ≡ asked (now (lines .entry)) (now (facts .entry)) .after (r .number) (p .number) ⌝ }
 {
-    if p == Record::START.number {
+    if p.is_start() {
         if list(lines, r) {
-            return field(lines, facts, r, FIRST);
+            return record_in(lines, facts, r, FIRST);
         }
-        return 0;
+        return Record::NOBODY;
     }
     if child(lines, facts, r, p) {
-        return field(lines, facts, p, FOLLOWER);
+        return record_in(lines, facts, p, FOLLOWER);
     }
-    0
+    Record::NOBODY
 }
 
-// who stands before `s` under `r`; 0 if nobody does
-pub fn forerunner(lines: &[u16; NUMBERS], facts: &[u32; FACTS], r: u32, s: u32) -> u32
-    ensures { λ z. ⌜ z ≡ asked (now (lines .entry)) (now (facts .entry)) .before r s ⌝ }
+// who stands before `s` under `r`; nobody, if none does
+pub fn forerunner(lines: &[u16; NUMBERS], facts: &[u32; FACTS], r: Record, s: Record) -> Record
+    ensures { λ z. ⌜ z .number ≡ asked (now (lines .entry)) (now (facts .entry)) .before (r .number) (s .number) ⌝ }
 {
-    if s == Record::END.number {
+    if s.is_end() {
         if list(lines, r) {
-            return field(lines, facts, r, LAST);
+            return record_in(lines, facts, r, LAST);
         }
-        return 0;
+        return Record::NOBODY;
     }
     if child(lines, facts, r, s) {
-        return field(lines, facts, s, FORERUNNER);
+        return record_in(lines, facts, s, FORERUNNER);
     }
-    0
+    Record::NOBODY
 }
 
 // ---- one line more
@@ -220,13 +237,13 @@ pub fn open(facts: &mut [u32; FACTS])
 }
 
 // the fields of a new line: nothing follows it, and it has no child
-fn lay(facts: &mut [u32; FACTS], l: usize, n: u32, r: u32, p: u32, start: u32, long: u32)
+fn lay(facts: &mut [u32; FACTS], l: usize, n: Record, r: Record, p: Record, start: u32, long: u32)
     requires { ⌜ l < ROOM ⌝ }
-    ensures { λ z. ⌜ now (facts .exit) ≡ laid (now (facts .entry)) l n r p start long ⌝ }
+    ensures { λ z. ⌜ now (facts .exit) ≡ laid (now (facts .entry)) l (n .number) (r .number) (p .number) start long ⌝ }
 {
-    facts[l * WIDTH + NUMBER] = n;
-    facts[l * WIDTH + PARENT] = r;
-    facts[l * WIDTH + FORERUNNER] = p;
+    facts[l * WIDTH + NUMBER] = n.number;
+    facts[l * WIDTH + PARENT] = r.number;
+    facts[l * WIDTH + FORERUNNER] = p.number;
     facts[l * WIDTH + FOLLOWER] = Record::END.number;
     facts[l * WIDTH + FIRST] = Record::END.number;
     facts[l * WIDTH + LAST] = Record::START.number;
@@ -235,39 +252,40 @@ fn lay(facts: &mut [u32; FACTS], l: usize, n: u32, r: u32, p: u32, start: u32, l
 }
 
 // START's follower is a field of the parent, a record's its own
-fn who(r: u32, p: u32) -> u32
-    ensures { λ z. ⌜ z ≡ who r p ⌝ }
+fn who(r: Record, p: Record) -> Record
+    ensures { λ z. ⌜ z .number ≡ who (r .number) (p .number) ⌝ }
 {
-    if p == Record::START.number {
+    if p.is_start() {
         return r;
     }
     p
 }
 
-fn way(p: u32) -> usize
-    ensures { λ z. ⌜ z ≡ way p ⌝ }
+fn way(p: Record) -> usize
+    ensures { λ z. ⌜ z ≡ way (p .number) ⌝ }
     ensures { λ z. ⌜ z < WIDTH ⌝ }
 {
-    if p == Record::START.number {
+    if p.is_start() {
         return FIRST;
     }
     FOLLOWER
 }
 
-// stores `v` in a field of a record's line
-fn put(lines: &[u16; NUMBERS], facts: &mut [u32; FACTS], n: u32, k: usize, v: u32)
+// stores the number `v` in a field of a record's line
+fn put(lines: &[u16; NUMBERS], facts: &mut [u32; FACTS], n: Record, k: usize, v: Record)
     requires { ⌜ k < WIDTH ⌝ }
-    ensures { λ z. ⌜ now (facts .exit) ≡ putField (now (lines .entry)) (now (facts .entry)) n k v ⌝ }
+    ensures { λ z. ⌜ now (facts .exit) ≡ putField (now (lines .entry)) (now (facts .entry)) (n .number) k (v .number) ⌝ }
 {
     let l = line_of(lines, n);
-    facts[l * WIDTH + k] = v;
+    facts[l * WIDTH + k] = v.number;
 }
 
 // `n` follows `p` under `r`, and is the last child of `r`
-fn hang(lines: &[u16; NUMBERS], facts: &mut [u32; FACTS], n: u32, r: u32, p: u32)
+fn hang(lines: &[u16; NUMBERS], facts: &mut [u32; FACTS], n: Record, r: Record, p: Record)
     ensures { λ z.
         ⌜ now (facts .exit) ≡ putField (now (lines .entry))
-        (putField (now (lines .entry)) (now (facts .entry)) (who r p) (way p) n) r LAST n ⌝ }
+        (putField (now (lines .entry)) (now (facts .entry)) (who (r .number) (p .number)) (way (p .number)) (n .number))
+        (r .number) LAST (n .number) ⌝ }
 {
     let w = who(r, p);
     let k = way(p);
@@ -280,19 +298,19 @@ pub fn add_line(
     lines: &mut [u16; NUMBERS],
     facts: &mut [u32; FACTS],
     l: usize,
-    n: u32,
-    r: u32,
+    n: Record,
+    r: Record,
     start: u32,
     long: u32,
 )
-    requires { ⌜ (l < ROOM) × (n < NUMBERS) ⌝ }
-    ensures { λ z. ⌜ now (lines .exit) ≡ addLine (now (lines .entry)) l n ⌝ }
+    requires { ⌜ (l < ROOM) × (n .number < NUMBERS) ⌝ }
+    ensures { λ z. ⌜ now (lines .exit) ≡ addLine (now (lines .entry)) l (n .number) ⌝ }
     ensures { λ z.
-        ⌜ now (facts .exit) ≡ addFacts (addLine (now (lines .entry)) l n) (now (facts .entry)) l n r
-        (field (now (lines .entry)) (now (facts .entry)) r LAST) start long ⌝ }
+        ⌜ now (facts .exit) ≡ addFacts (addLine (now (lines .entry)) l (n .number)) (now (facts .entry)) l (n .number) (r .number)
+        (field (now (lines .entry)) (now (facts .entry)) (r .number) LAST) start long ⌝ }
 {
-    let p = field(lines, facts, r, LAST);
-    lines[n as usize] = l as u16;
+    let p = record_in(lines, facts, r, LAST);
+    lines[n.number as usize] = l as u16;
     lay(facts, l, n, r, p, start, long);
     hang(lines, facts, n, r, p);
 }

@@ -6,12 +6,12 @@ use bytes::write_digits;
 use bytes::write_field;
 use facts::FACTS;
 use facts::LENGTH;
-use facts::NUMBER;
-use facts::PARENT;
 use facts::PLACE;
 use facts::SPAN;
 use facts::TEXTS;
 use facts::field_on;
+use facts::number_on;
+use facts::parent_on;
 use text::LF;
 ghost use mathlib.Core.Path.{_≡_};
 ghost use Prim.Native.Nat.{_+_, _-_, _<_, _≤_, min};
@@ -71,9 +71,9 @@ fn frame_line(facts: &[u32; FACTS], l: usize) -> usize
     ensures { λ r. ⌜ r ≡ frameLine (now (facts .entry)) l ⌝ }
     ensures { λ r. ⌜ r ≤ 15 ⌝ }
 {
-    let n = field_on(facts, l, NUMBER);
-    let r = field_on(facts, l, PARENT);
-    3 + digit_count(n) + digit_count(r)
+    let n = number_on(facts, l);
+    let r = parent_on(facts, l);
+    3 + digit_count(n.number) + digit_count(r.number)
 }
 
 // what it takes in the ledger
@@ -82,10 +82,10 @@ fn ledger_line(facts: &[u32; FACTS], l: usize) -> usize
     ensures { λ r. ⌜ r ≡ ledgerLine (now (facts .entry)) l ⌝ }
     ensures { λ r. ⌜ r ≤ 21 ⌝ }
 {
-    let n = field_on(facts, l, NUMBER);
+    let n = number_on(facts, l);
     let place = field_on(facts, l, PLACE);
     let bytes = field_on(facts, l, LENGTH);
-    3 + digit_count(n) + digit_count(place / SPAN / TEXTS) + digit_count(bytes)
+    3 + digit_count(n.number) + digit_count(place / SPAN / TEXTS) + digit_count(bytes)
 }
 
 // How many digits a sum has; no sum that is written has more than six.
@@ -149,10 +149,10 @@ fn write_entry(facts: &[u32; FACTS], out: &mut [u8], at: usize, l: usize) -> usi
     requires { ⌜ (l < ROOM) × (at + length (entryLine (entryOn (now facts) l)) ≤ length (now out)) ⌝ }
     ensures { λ z. ⌜ Put (now (out .entry)) (now (out .exit)) at z (entryLine (entryOn (now (facts .entry)) l)) ⌝ }
 {
-    let n = field_on(facts, l, NUMBER);
+    let n = number_on(facts, l);
     let place = field_on(facts, l, PLACE);
     let bytes = field_on(facts, l, LENGTH);
-    let p = write_field(n, out, at);
+    let p = write_field(n.number, out, at);
     write_end(place / SPAN / TEXTS, bytes, out, p)
 }
 

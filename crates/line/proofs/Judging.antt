@@ -2,11 +2,13 @@
 -- found of its parts, p a part that writes a number, n the number read there. Assumes nothing.
 use mathlib.Core.Path.{_≡_, refl, sym, ap, _∙_}
 use mathlib.Core.Bool.{Bool, true, false, cond, not, _&&_, true≢false, and-false}
-use mathlib.Core.List.{List}
-use Prim.Native.Nat.{ℕ, min, _+_, _-_, _<_, _≤_}
+use mathlib.Core.List.{List, []}
+use Prim.Native.Nat.{ℕ, min, _+_, _-_, _^_, _<_, _≤_}
 use native.Mathlib.Omega.{arith}
+use mir.Val.{Fits}
+use mir.Syntax.{w64}
 use lib.Dec.{eqb, leb, ltb}
-use lib.ListN.{length, take, drop}
+use lib.ListN.{length, take, drop, length-drop, length-append}
 use borrow.Author.Needs.{needs}
 use borrow.Author.Tests.{ne-eqb, le-leb, lt-leb, leb-true, leb-false, not-false}
 use Rattle.rules.specs.Codes.{accepted, byteNotAllowed, fewTabs, badNumber, badParent, badContent}
@@ -14,12 +16,14 @@ use Rattle.rules.specs.Limits.{GREATEST}
 use Rattle.rules.specs.Lists.{every}
 use Rattle.rules.specs.Marks.{isRecord}
 use Rattle.rules.specs.Line.{numberPart, parentPart, contentPart, numberOk, parentOk, lineFault}
+use Rattle.rules.specs.declared.record.Record.{Record}
 use Rattle.rules.specs.Text.{TAB, LF, allowed, count, before, decimal, value, filled, contentOk}
+use Rattle.readback.proofs.Splitting.{before-left}
 use Rattle.text.specs.Reads.{NONE, numberIn}
 use Rattle.text.proofs.Places.{part-from, left-none}
 use Rattle.line.specs.Parts.{contentFits, shapeFault, noParts, goodParts, partsOf}
-use Rattle.line.specs.Told.{faulty, good, lineTold, nextLine}
-use Rattle.line.specs.declared.Line.{Line}
+use Rattle.line.specs.Told.{faulty, good, lineTold, nextLine, reachedFrom}
+use Rattle.line.specs.declared.Reached.{Reached}
 use Rattle.line.specs.declared.Parts.{Parts}
 use Rattle.line.proofs.Parting.{Cut, cut-is}
 
@@ -117,7 +121,7 @@ module _ (s : List ℕ) (parts : Parts) where
   abbrev l : List ℕ
   l = before LF s
 
-  pub judge-shape : (r : Line) → parts ≡ partsOf l → (parts .code ≡ accepted → ⊥) → r ≡ faulty (parts .code) → r ≡ nextLine s
+  pub judge-shape : (r : Reached) → parts ≡ partsOf l → (parts .code ≡ accepted → ⊥) → r ≡ faulty (parts .code) → r ≡ nextLine s
   judge-shape r e n f = f ∙ ap faulty code ∙ told-faulty l (shapeFault l) (fault-shape l bad) bad
     where
       bad : shapeFault l ≡ accepted → ⊥
@@ -136,7 +140,7 @@ module _ (s : List ℕ) (parts : Parts) where
     number-tested : u ≡ numberOk (numberPart l)
     number-tested = g ∙ ap isRecord f ∙ number-ok (numberPart l) (parts .number) (k .number)
 
-    pub judge-number : (r : Line) → not u ≡ true → r ≡ faulty badNumber → r ≡ nextLine s
+    pub judge-number : (r : Reached) → not u ≡ true → r ≡ faulty badNumber → r ≡ nextLine s
     judge-number r h q = q ∙ told-faulty l badNumber (judged-is k ∙ rw (← number-tested, h)) (λ z. absurd (omega (arith, z)))
 
     pub numbered : not u ≡ false → Numbered s parts
@@ -148,7 +152,7 @@ module _ (s : List ℕ) (parts : Parts) where
     parent-tested : leb (parts .parent) GREATEST ≡ parentOk (parentPart l)
     parent-tested = parent-ok (parentPart l) (parts .parent) (a .cut .parent)
 
-    pub judge-parent : (r : Line) → GREATEST < parts .parent → r ≡ faulty badParent → r ≡ nextLine s
+    pub judge-parent : (r : Reached) → GREATEST < parts .parent → r ≡ faulty badParent → r ≡ nextLine s
     judge-parent r h q =
         q
         ∙ told-faulty l badParent (judged-is (a .cut) ∙ rw (a .ok, ← parent-tested, lt-leb (parts .parent) GREATEST h))
@@ -174,39 +178,44 @@ module _ (s : List ℕ) (parts : Parts) where
     content-judged : lineFault l ≡ cond (not u) badContent accepted
     content-judged = judged-is cut ∙ rw (a .number .ok, a .ok, ← content-tested)
 
-    pub judge-content : (r : Line) → not u ≡ true → r ≡ faulty badContent → r ≡ nextLine s
+    pub judge-content : (r : Reached) → not u ≡ true → r ≡ faulty badContent → r ≡ nextLine s
     judge-content r h q = q ∙ told-faulty l badContent (content-judged ∙ rw h) (λ z. absurd (omega (arith, z)))
 
     start-is : parts .start ≡ length l - length (contentPart l)
     start-is = omega (arith, cut .content, cut .long, cut .low)
 
-    next-is : parts .end + 1 ≡ length l + 1
-    next-is = ap (λ (x : ℕ). x + 1) (cut .long)
+    behind-is : parts .end + 1 ≡ length l + 1
+    behind-is = ap (λ (x : ℕ). x + 1) (cut .long)
 
-    abbrev row : Line
-    row =
-        record {
-          code = accepted;
-          number = parts .number;
-          parent = parts .parent;
-          start = parts .start;
-          length = long;
-          next = parts .end + 1;
-        }
+    module _ (number parent : Record) (p : number .number ≡ parts .number) (q : parent .number ≡ parts .parent) where
+      abbrev row : Reached
+      row =
+          record {
+            line = record {
+              code = accepted;
+              number = number;
+              parent = parent;
+              start = parts .start;
+              length = long;
+            };
+            at = parts .end + 1;
+          }
 
-    row-is : row ≡ good l
-    row-is =
-        λ i. record {
-          code = accepted;
-          number = a .number .is i;
-          parent = a .is i;
-          start = start-is i;
-          length = long-is i;
-          next = next-is i;
-        }
+      row-is : row ≡ good l
+      row-is =
+          λ i. record {
+            line = record {
+              code = accepted;
+              number = record { number = (p ∙ a .number .is) i };
+              parent = record { number = (q ∙ a .is) i };
+              start = start-is i;
+              length = long-is i;
+            };
+            at = behind-is i;
+          }
 
-    pub row-told : not u ≡ false → row ≡ nextLine s
-    row-told h = row-is ∙ told-good l (content-judged ∙ rw h)
+      pub row-told : not u ≡ false → row ≡ nextLine s
+      row-told h = row-is ∙ told-good l (content-judged ∙ rw h)
 
 pub ruleset judges = (cut-is, judge-shape, judge-number, numbered, judge-parent, parented, judge-content, row-told, needs)
 
@@ -222,6 +231,43 @@ from-place s place from e = go (leb place (length s)) refl
         let h : length s < place = leb-false place (length s) q in
         left-none s from (omega (arith, e, h)) ∙ sym (left-none s place (omega (arith, h)))
 
-pub place-told : (s : List ℕ) (place from : ℕ) (r : Line) → from ≡ min place (length s)
-    → r ≡ nextLine (take (length s - from) (drop from s)) → r ≡ nextLine (drop place s)
-place-told s place from r e f = f ∙ ap nextLine (part-from s from ∙ from-place s place from e)
+-- a line ends at most behind the last byte, and nowhere if nothing is left
+behind-le : (rest : List ℕ) → nextLine rest .at ≤ length rest + 1
+unfolding lineTold
+behind-le rest = go (eqb (lineFault (before LF rest)) accepted)
+  where
+    within : length (before LF rest) ≤ length rest
+    within =
+        let b = length (before LF rest) in
+        omega (arith, ap length (before-left LF rest), length-append (before LF rest) (drop b rest))
+
+    go : (u : Bool) → cond u (good (before LF rest)) (faulty (lineFault (before LF rest))) .at ≤ length rest + 1
+    go true = omega (arith, within)
+    go false = omega arith
+
+behind-none : nextLine [] .at ≡ 0
+unfolding lineTold
+behind-none = refl
+
+-- r is what is told of what is left from `from` on
+module _ (s : List ℕ) (place from : ℕ) (r : Reached) (e : from ≡ min place (length s))
+    (f : r ≡ nextLine (take (length s - from) (drop from s))) where
+  place-told : r ≡ nextLine (drop place s)
+  place-told = f ∙ ap nextLine (part-from s from ∙ from-place s place from e)
+
+  behind-told : r .at ≡ nextLine (drop place s) .at
+  behind-told = ap (λ (z : Reached). z .at) place-told
+
+  pub reached-fits : place < 2 ^ 64 → length s + 1 < 2 ^ 64 → Fits w64 (place + r .at)
+  reached-fits h k = record { fits = go (leb place (length s)) refl }
+    where
+      go : (u : Bool) → leb place (length s) ≡ u → place + r .at < 2 ^ 64
+      go true q = omega (arith, behind-told, behind-le (drop place s), k, length-drop place s, leb-true place (length s) q)
+      go false q =
+          let none : drop place s ≡ [] = left-none s place (omega (arith, leb-false place (length s) q)) in
+          omega (arith, behind-told, ap (λ (z : List ℕ). nextLine z .at) none, behind-none, h)
+
+  pub reached-told : record { line = r .line; at = place + r .at } ≡ reachedFrom s place
+  reached-told = ap (λ (z : Reached). record { line = z .line; at = place + z .at }) place-told
+
+pub ruleset reaches = (reached-told, needs)

@@ -22,18 +22,22 @@ ghost use lib.Dec.{eqb};
 ghost use lib.ListN.{length, drop};
 ghost use Rattle.rules.specs.Text.{TAB as tab, LF as lineFeed, before};
 ghost use Rattle.text.specs.Reads.{byteAt};
-ghost use Rattle.line.specs.Told.{faulty as faultyOf, nextLine};
+ghost use Rattle.line.specs.Told.{faulty as faultyOf, nextLine, reachedFrom, lineOf, movedOn};
 ghost use Rattle.line.specs.Parts.{shortFault, fieldsFrom, goodAfter, goodBytes, goodFrom, fieldsAt, contentFits, noParts, partsOf};
 
-// What is told of a line: code 0, number, parent, the content's start and length in the line, and where the next line starts; or the
-// code of its fault and zeros.
+// What is told of a line: code 0, number, parent, and the content's start and length in the line; or the code of its fault and zeros.
 pub struct Line {
     pub code: u32,
-    pub number: u32,
-    pub parent: u32,
+    pub number: Record,
+    pub parent: Record,
     pub start: usize,
     pub length: usize,
-    pub next: usize,
+}
+
+// A line, and the place reached by reading it: behind its LF; a faulty line is not passed.
+pub struct Reached {
+    pub line: Line,
+    pub at: usize,
 }
 
 // Where the fields of a content end, and whether none of them is empty.
@@ -53,17 +57,17 @@ struct Parts {
     filled: bool,
 }
 
-fn faulty(code: u32) -> Line
+fn faulty(code: u32) -> Reached
     ensures { λ r. ⌜ r ≡ faultyOf code ⌝ }
 {
-    Line {
+    let line = Line {
         code,
-        number: 0,
-        parent: 0,
+        number: Record::TOP,
+        parent: Record::TOP,
         start: 0,
         length: 0,
-        next: 0,
-    }
+    };
+    Reached { line, at: 0 }
 }
 
 fn no_parts(code: u32) -> Parts
@@ -259,31 +263,36 @@ fn content_fits(length: usize, filled: bool) -> bool
     filled
 }
 
-// The line that the rest of a text starts with.
-pub fn read_line(rest: &[u8]) -> Line
+// The line that the rest of a text starts with, and the place behind it in that rest.
+pub fn read_line(rest: &[u8]) -> Reached
     ensures { λ r. ⌜ r ≡ nextLine (now (rest .entry)) ⌝ }
 {
     let parts = cut(rest);
     if parts.code != ACCEPTED {
         return faulty(parts.code);
     }
-    if !Record::new(parts.number).is_record() {
+    let number = Record::new(parts.number);
+    if !number.is_record() {
         return faulty(BAD_NUMBER);
     }
     if GREATEST < parts.parent {
         return faulty(BAD_PARENT);
     }
+    let parent = Record::new(parts.parent);
     let length = bytes_between(parts.start, parts.end);
     if !content_fits(length, parts.filled) {
         return faulty(BAD_CONTENT);
     }
-    Line {
+    let line = Line {
         code: ACCEPTED,
-        number: parts.number,
-        parent: parts.parent,
+        number,
+        parent,
         start: parts.start,
         length,
-        next: parts.end + 1,
+    };
+    Reached {
+        line,
+        at: parts.end + 1,
     }
 }
 
@@ -294,12 +303,17 @@ fn within(text: &[u8], at: usize) -> usize
     if at < text.len() { at } else { text.len() }
 }
 
-// The line at a place of the text: what is left from there goes on as a part.
-pub fn read_at(text: &[u8], at: usize) -> Line
-    ensures { λ r. ⌜ r ≡ nextLine (drop at (now (text .entry))) ⌝ }
+// The line at a place of the text, and the place behind it in the text: what is left from there goes on as a part.
+pub fn read_at(text: &[u8], at: usize) -> Reached
+    ensures { λ r. ⌜ r ≡ reachedFrom (now (text .entry)) at ⌝ }
 {
     let from = within(text, at);
-    read_line(&text[from..])
+    let reached = read_line(&text[from..]);
+    let line = reached.line;
+    Reached {
+        line,
+        at: at + reached.at,
+    }
 }
 
 // A text and the place reached in it.
@@ -315,17 +329,24 @@ impl<'a> LineReader<'a> {
         LineReader { text, at }
     }
 
-    // The line at the place reached.
-    pub fn next(self) -> Line
-        ensures { λ s. ⌜ s ≡ nextLine (drop (self .entry .at) (now (self .entry .text))) ⌝ }
+    // The line at the place reached; the place moves behind it.
+    pub fn next(&mut self) -> Line
+        ensures { λ l. ⌜ (l ≡ lineOf (now (self .entry))) × (now (self .exit) ≡ movedOn (now (self .entry))) ⌝ }
     {
-        read_at(self.text, self.at)
+        let reached = read_at(self.text, self.at);
+        self.at = reached.at;
+        reached.line
     }
 }
 
 // The same with plain parameters.
-pub fn line_at(text: &[u8], at: usize) -> Line
-    ensures { λ r. ⌜ r ≡ nextLine (drop at (now (text .entry))) ⌝ }
+pub fn line_at(text: &[u8], at: usize) -> Reached
+    ensures { λ r. ⌜ r ≡ reachedFrom (now (text .entry)) at ⌝ }
 {
-    LineReader::new(text, at).next()
+    let mut reader = LineReader::new(text, at);
+    let line = reader.next();
+    Reached {
+        line,
+        at: reader.at,
+    }
 }

@@ -35,15 +35,17 @@ fn lost_after(
     ls: &[u16; NUMBERS],
     fs: &[u32; FACTS],
     t: usize,
-    r: u32,
-    p: u32,
+    r: Record,
+    p: Record,
 ) -> bool
     requires { ⌜ t < TABLES ⌝ }
-    ensures { λ z. ⌜ z ≡ lostAfter (ask (now (lines .entry)) (now (facts .entry))) (asked (now (ls .entry)) (now (fs .entry))) t r p ⌝ }
+    ensures { λ z.
+        ⌜ z ≡ lostAfter (ask (now (lines .entry)) (now (facts .entry))) (asked (now (ls .entry)) (now (fs .entry))) t
+        (r .number) (p .number) ⌝ }
 {
     let s = follower_in(lines, facts, t, r, p);
     let m = follower(ls, fs, r, p);
-    if s == m {
+    if s.number == m.number {
         return false;
     }
     let o = follower_in(lines, facts, 0, r, p);
@@ -57,14 +59,15 @@ fn lost_position(
     ls: &[u16; NUMBERS],
     fs: &[u32; FACTS],
     t: usize,
-    n: u32,
+    n: Record,
 ) -> u32
     requires { ⌜ t < TABLES ⌝ }
-    ensures { λ z. ⌜ z ≡ lostPosition (ask (now (lines .entry)) (now (facts .entry))) (asked (now (ls .entry)) (now (fs .entry))) t n ⌝ }
+    ensures { λ z.
+        ⌜ z ≡ lostPosition (ask (now (lines .entry)) (now (facts .entry))) (asked (now (ls .entry)) (now (fs .entry))) t (n .number) ⌝ }
 {
     let r = parent_in(lines, facts, t, n);
     let behind = lost_after(lines, facts, ls, fs, t, r, n);
-    let first = lost_after(lines, facts, ls, fs, t, n, Record::START.number);
+    let first = lost_after(lines, facts, ls, fs, t, n, Record::start());
     let a = place(behind, r);
     let b = place(first, n);
     smaller(a, b)
@@ -78,12 +81,13 @@ fn lost_content<'a>(
     marks: &[[u8; ROOM]; TABLES],
     ls: &[u16; NUMBERS],
     t: usize,
-    n: u32,
+    n: Record,
 ) -> u32
     requires { ⌜ (0 < t) × (t < TABLES) ⌝ }
     requires { ⌜ Noted (map now (now texts)) (now lines) (now facts) (now marks) ⌝ }
     ensures { λ z.
-        ⌜ z ≡ lostContent (tell (map now (now (texts .entry))) (now (lines .entry)) (now (facts .entry))) (hasIn (now (ls .entry))) t n ⌝ }
+        ⌜ z ≡ lostContent (tell (map now (now (texts .entry))) (now (lines .entry)) (now (facts .entry))) (hasIn (now (ls .entry))) t
+        (n .number) ⌝ }
 {
     if has(ls, n) {
         return NONE;

@@ -1,6 +1,6 @@
 -- All lists, turn by turn as the code goes. nx says who follows whom, `part` where the content of a record lies; ls and fs are the two
--- arrays, with 0 at the start and a prime with one line more; r is the innermost parent, p its last child so far, s what follows, z
--- whether it is laid, v the place of r if its list is broken; `lists` are begun. Assumes nothing.
+-- arrays, with 0 at the start and a prime with one line more; r is the innermost parent, p its last child so far, s what follows, y
+-- whether that is END, z whether it is laid, v the place of r if its list is broken; `lists` are begun. Assumes nothing.
 use mathlib.Core.Path.{_≡_, refl, sym, ap, _∙_, subst}
 use mathlib.Core.Logic.{_⊎_, inl, inr}
 use mathlib.Core.Bool.{Bool, true, false, not, _&&_}
@@ -138,13 +138,13 @@ no-rows = record { distinct = record { once = tt; valid = λ x m. absurd (List·
 
 -- ---- what is asked on the way
 
--- z is the answer whether s, as the number m, is a record; so is there room for one more?
-module _ (s m count : ℕ) (z : Bool) (number : m ≡ s) (tested : z ≡ isRecord m) where
+-- z is the answer whether s is a record; so is there room for one more?
+module _ (s count : ℕ) (z : Bool) (tested : z ≡ isRecord s) where
   pub follows-yes : z ≡ true → ltb count (ROOM - 1) ≡ (isRecord s && ltb count (ROOM - 1))
-  follows-yes t = ap (λ (b : Bool). b && ltb count (ROOM - 1)) (sym t ∙ tested ∙ ap isRecord number)
+  follows-yes t = ap (λ (b : Bool). b && ltb count (ROOM - 1)) (sym t ∙ tested)
 
   pub follows-no : z ≡ false → false ≡ (isRecord s && ltb count (ROOM - 1))
-  follows-no t = ap (λ (b : Bool). b && ltb count (ROOM - 1)) (sym t ∙ tested ∙ ap isRecord number)
+  follows-no t = ap (λ (b : Bool). b && ltb count (ROOM - 1)) (sym t ∙ tested)
 
 pub record-laid : (part : ℕ → Part) (ls fs ls′ fs′ : List ℕ) (l s r start long : ℕ) → length ls ≡ NUMBERS → length fs ≡ ROOM * WIDTH
     → (start ≡ part s .start) × (long ≡ part s .length) → ls′ ≡ addLine ls l s
@@ -168,8 +168,8 @@ module _ (s count : ℕ) (z : Bool) (tested : z ≡ (isRecord s && ltb count (RO
   number-fits = omega (arith, record-high s (both .0))
 
 module _ (nx : ℕ → ℕ → ℕ) (part : ℕ → Part) (ls₀ fs₀ : List ℕ) where
-  pub outset : Outer nx part ls₀ fs₀ ls₀ fs₀ TOP START 0 1 NONE
-  outset = record {
+  begun-at : Outer nx part ls₀ fs₀ ls₀ fs₀ TOP START 0 1 NONE
+  begun-at = record {
     in-room = omega arith;
     few-lists = omega arith;
     stands = λ kept known st h ct. record {
@@ -196,12 +196,17 @@ module _ (nx : ℕ → ℕ → ℕ) (part : ℕ → Part) (ls₀ fs₀ : List �
     };
   }
 
+  pub outset : (r p : ℕ) → r ≡ TOP → p ≡ START → Outer nx part ls₀ fs₀ ls₀ fs₀ r p 0 1 NONE
+  outset r p er ep =
+      subst (λ (k : ℕ). Outer nx part ls₀ fs₀ ls₀ fs₀ k p 0 1 NONE) (sym er)
+      (subst (λ (k : ℕ). Outer nx part ls₀ fs₀ ls₀ fs₀ TOP k 0 1 NONE) (sym ep) begun-at)
+
   module _ (ls fs : List ℕ) (r p count lists broken : ℕ) (g : Outer nx part ls₀ fs₀ ls fs r p count lists broken) where
     module _ (s : ℕ) (z : Bool) (begun : 0 < lists) (es : s ≡ nx r p) (tested : z ≡ (isRecord s && ltb count (ROOM - 1))) where
-      pub turn-down : (ls′ fs′ : List ℕ) → z ≡ true → RecordLaid part ls fs ls′ fs′ (count + 1) s r
-          → Outer nx part ls₀ fs₀ ls′ fs′ s START (count + 1) (lists + 1) broken
-      turn-down ls′ fs′ t w =
-          record {
+      pub turn-down : (ls′ fs′ : List ℕ) (p′ : ℕ) → z ≡ true → RecordLaid part ls fs ls′ fs′ (count + 1) s r → p′ ≡ START
+          → Outer nx part ls₀ fs₀ ls′ fs′ s p′ (count + 1) (lists + 1) broken
+      turn-down ls′ fs′ p′ t w ep =
+          subst (λ (k : ℕ). Outer nx part ls₀ fs₀ ls′ fs′ s k (count + 1) (lists + 1) broken) (sym ep) record {
             in-room = line-fits s count z tested t;
             few-lists = omega (arith, g .few-lists);
             stands = λ kept known st h ct.
@@ -219,9 +224,9 @@ module _ (nx : ℕ → ℕ → ℕ) (part : ℕ → Part) (ls₀ fs₀ : List �
               subst (λ (m : ℕ). Stand nx part kept known ct ls′ fs′ s START (count + 1) m broken) many
               (stand-on st f i s r ls′ fs′ at e w)
 
-      pub turn-up : (v broken′ r′ : ℕ) → z ≡ false → v ≡ place (not (eqb s END)) r → broken′ ≡ min broken v → r′ ≡ field ls fs r PARENT
-          → Outer nx part ls₀ fs₀ ls fs r′ r count (lists - 1) broken′
-      turn-up v broken′ r′ t ev eb er =
+      pub turn-up : (v broken′ r′ : ℕ) (y : Bool) → z ≡ false → y ≡ eqb s END → v ≡ place (not y) r → broken′ ≡ min broken v
+          → r′ ≡ field ls fs r PARENT → Outer nx part ls₀ fs₀ ls fs r′ r count (lists - 1) broken′
+      turn-up v broken′ r′ y t ey ev eb er =
           record {
             in-room = g .in-room;
             few-lists = omega (arith, g .few-lists);
@@ -243,7 +248,8 @@ module _ (nx : ℕ → ℕ → ℕ) (part : ℕ → Part) (ls₀ fs₀ : List �
           go kept known ct st (a ∷ path) deep at f =
               let e : s ≡ nx (a .parent) p = es ∙ ap (λ (q : ℕ). nx q p) at in
               let many : length path ≡ lists - 1 = omega arith in
-              let b : min broken (place (not (eqb s END)) r) ≡ broken′ = sym (eb ∙ ap (min broken) ev) in
+              let b : min broken (place (not (eqb s END)) r) ≡ broken′ =
+              sym (eb ∙ ap (min broken) (ev ∙ ap (λ (a : Bool). place (not a) r) ey)) in
               subst (λ (m : ℕ). Stand nx part kept known ct ls fs r′ r count m broken′) many
               (subst (λ (m : ℕ). Stand nx part kept known ct ls fs r′ r count (length path) m) b
               (subst (λ (q : ℕ). Stand nx part kept known ct ls fs q r count (length path) (min broken (place (not (eqb s END)) r)))

@@ -9,12 +9,11 @@ use edits::place;
 use edits::smaller;
 use facts::FACTS;
 use facts::NUMBERS;
-use facts::PARENT;
 use facts::ROOM;
 use facts::TABLES;
 use facts::add_line;
 use facts::column;
-use facts::field;
+use facts::parent;
 use facts::width;
 use rules::record::Record;
 ghost use mathlib.Core.Path.{_≡_};
@@ -35,10 +34,10 @@ pub struct LaidOut {
 }
 
 // Whether a record follows, and there is a line for it behind the first `count`.
-fn follows(s: u32, count: usize) -> bool
-    ensures { λ z. ⌜ z ≡ (isRecord s && ltb count (ROOM - 1)) ⌝ }
+fn follows(s: Record, count: usize) -> bool
+    ensures { λ z. ⌜ z ≡ (isRecord (s .number) && ltb count (ROOM - 1)) ⌝ }
 {
-    if Record::new(s).is_record() {
+    if s.is_record() {
         return count < ROOM - 1;
     }
     false
@@ -53,14 +52,14 @@ fn lay_record<'a>(
     ls: &mut [u16; NUMBERS],
     fs: &mut [u32; FACTS],
     l: usize,
-    s: u32,
-    r: u32,
+    s: Record,
+    r: Record,
 )
-    requires { ⌜ (l < ROOM) × (s < NUMBERS) ⌝ }
+    requires { ⌜ (l < ROOM) × (s .number < NUMBERS) ⌝ }
     requires { ⌜ Noted (map now (now texts)) (now lines) (now facts) (now marks) ⌝ }
     ensures { λ z.
         ⌜ RecordLaid (keptPart (map now (now (texts .entry))) (now (lines .entry)) (now (facts .entry)))
-        (now (ls .entry)) (now (fs .entry)) (now (ls .exit)) (now (fs .exit)) l s r ⌝ }
+        (now (ls .entry)) (now (fs .entry)) (now (ls .exit)) (now (fs .exit)) l (s .number) (r .number) ⌝ }
 {
     column(ls);
     width(fs);
@@ -87,8 +86,8 @@ pub fn lay_down<'a>(
     let mut count: usize = 0;
     let mut broken = NONE;
     let mut lists: usize = 1;
-    let mut r = Record::TOP.number;
-    let mut p = Record::START.number;
+    let mut r = Record::top();
+    let mut p = Record::start();
     while 0 < lists {
         let s = kept_after(lines, facts, r, p);
         if follows(s, count) {
@@ -96,14 +95,14 @@ pub fn lay_down<'a>(
             lists += 1;
             lay_record(texts, lines, facts, marks, ls, fs, count, s, r);
             r = s;
-            p = Record::START.number;
+            p = Record::start();
             continue;
         }
-        let v = place(s != Record::END.number, r);
+        let v = place(!s.is_end(), r);
         broken = smaller(broken, v);
         lists -= 1;
         p = r;
-        r = field(ls, fs, r, PARENT);
+        r = parent(ls, fs, r);
     }
     LaidOut { count, broken }
 }

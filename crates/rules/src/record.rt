@@ -16,6 +16,9 @@ impl Record {
 
     pub const END: Record = Record { number: 65537 };
 
+    // Nobody stands there. The top is nobody's neighbour, so its number is free to say that.
+    pub const NOBODY: Record = Record::TOP;
+
     // ---- made
 
     pub fn new(number: u32) -> Self
@@ -67,5 +70,11 @@ impl Record {
         ensures { λ r. ⌜ r ≡ eqb (self .number) END ⌝ }
     {
         self.number == Record::END.number
+    }
+
+    pub fn is_nobody(self) -> bool
+        ensures { λ r. ⌜ r ≡ eqb (self .number) 0 ⌝ }
+    {
+        self.number == Record::NOBODY.number
     }
 }

@@ -1,5 +1,5 @@
--- A good line goes into memory, and the reading goes on behind it. text is the table's bytes, ls and fs are the two arrays, l is what is
--- told of the line at the place reached; a prime marks the arrays with one line more. Assumes nothing.
+-- A good line goes into memory, and the reading goes on behind it. text is the table's bytes, ls and fs are the two arrays, r is the line
+-- at the place reached, and the place reached by reading it; a prime marks the arrays with one line more. Assumes nothing.
 use mathlib.Core.Path.{_≡_, refl, sym, ap, _∙_, subst}
 use mathlib.Core.List.{List, []}
 use Prim.Native.Nat.{ℕ, _+_, _-_, _*_, _<_, _≤_}
@@ -22,14 +22,18 @@ use Rattle.facts.specs.Holds.{Holds, partAt}
 use Rattle.facts.proofs.Adding.{Added, added}
 use Rattle.facts.proofs.Fresh.{fresh-holds}
 use Rattle.line.specs.declared.Line.{Line}
-use Rattle.line.specs.Told.{nextLine}
+use Rattle.line.specs.declared.Reached.{Reached}
+use Rattle.line.specs.Told.{reachedFrom}
 use Rattle.table.specs.Read.{faultIn, Begins}
 use Rattle.table.proofs.Reading.{Reading, row, follows, is-good, on, has-stands}
 
-module _ (text ls fs : List ℕ) (place c : ℕ) (g : Reading text place ls fs c) (more : place < length text) (l : Line)
-    (e : l ≡ nextLine (drop place text)) (fine : faultIn ls c l ≡ accepted) where
+module _ (text ls fs : List ℕ) (place c : ℕ) (g : Reading text place ls fs c) (more : place < length text) (r : Reached)
+    (e : r ≡ reachedFrom text place) (fine : faultIn ls c (r .line) ≡ accepted) where
+  abbrev l : Line
+  l = r .line
+
   abbrev y : Row
-  y = row text ls fs place c g more l e fine
+  y = row text ls fs place c g more r e fine
 
   -- the arrays with one line more, as the code and as the row has them
   abbrev lines-by : ℕ → List ℕ
@@ -40,19 +44,19 @@ module _ (text ls fs : List ℕ) (place c : ℕ) (g : Reading text place ls fs c
 
   grown : Added ls fs (lines-by (y .number)) (facts-by (y .number) (y .parent)) (g .seen) y (place + l .start) (l .length)
   grown =
-      let f = follows text ls fs place c g more l e fine in
+      let f = follows text ls fs place c g more r e fine in
       added ls fs (g .seen) y (c + 1) (place + l .start) (l .length) (g .holds) (good-readable (g .seen) (g .good)) (f .number) (f .new)
       (f .under) (omega (arith, g .counted)) (omega (arith, g .counted, f .room)) (g .columns) (g .widths)
 
   -- the reading goes on behind the line
-  pub goes-on : (ls′ fs′ : List ℕ) → ls′ ≡ lines-by (l .number) → fs′ ≡ facts-by (l .number) (l .parent)
-      → Reading text (place + l .next) ls′ fs′ (c + 1)
+  pub goes-on : (ls′ fs′ : List ℕ) → ls′ ≡ lines-by (l .number .number) → fs′ ≡ facts-by (l .number .number) (l .parent .number)
+      → Reading text (r .at) ls′ fs′ (c + 1)
   goes-on ls′ fs′ p q =
-      let good = is-good text ls fs place c g more l e fine in
-      on text ls fs place c g more l e fine ls′ fs′
-      (subst (λ (z : List ℕ). Added ls fs z fs′ (g .seen) y start (l .length)) (sym (p ∙ (λ i. lines-by (good i .number))))
+      let good = is-good text ls fs place c g more r e fine in
+      on text ls fs place c g more r e fine ls′ fs′
+      (subst (λ (z : List ℕ). Added ls fs z fs′ (g .seen) y start (l .length)) (sym (p ∙ (λ i. lines-by (good i .line .number .number))))
       (subst (λ (z : List ℕ). Added ls fs (lines-by (y .number)) z (g .seen) y start (l .length))
-      (sym (q ∙ (λ i. facts-by (good i .number) (good i .parent)))) grown))
+      (sym (q ∙ (λ i. facts-by (good i .line .number .number) (good i .line .parent .number)))) grown))
     where
       start : ℕ
       start = place + l .start
@@ -61,30 +65,30 @@ module _ (text ls fs : List ℕ) (place c : ℕ) (g : Reading text place ls fs c
   pub record Small : Type 0 where
     pub start-in : place + l .start ≤ BYTES
     pub length-in : l .length ≤ BYTES
-    pub number-in : l .number < NUMBERS
+    pub number-in : l .number .number < NUMBERS
     pub line-in : c + 1 < ROOM
-    pub next-in : place + l .next ≤ length text
-    pub next-on : 0 < l .next
+    pub behind-in : r .at ≤ length text
+    pub behind-on : place < r .at
 
   pub small : Small
   small =
-      let good = is-good text ls fs place c g more l e fine in
-      let f = follows text ls fs place c g more l e fine in
+      let good = is-good text ls fs place c g more r e fine in
+      let f = follows text ls fs place c g more r e fine in
       let left : length (drop place text) ≡ length text - place = length-drop place text in
       let short = before-lt (drop place text) (omega arith) (g .whole) in
       let start : l .start ≡ length (before LF (drop place text)) - length (contentPart (before LF (drop place text))) =
-      ap (λ (z : Line). z .start) good in
-      let long : l .length ≡ length (contentPart (before LF (drop place text))) = ap (λ (z : Line). z .length) good in
-      let next : l .next ≡ length (before LF (drop place text)) + 1 = ap (λ (z : Line). z .next) good in
-      let number : l .number ≡ y .number = ap (λ (z : Line). z .number) good in
+      ap (λ (z : Reached). z .line .start) good in
+      let long : l .length ≡ length (contentPart (before LF (drop place text))) = ap (λ (z : Reached). z .line .length) good in
+      let behind : r .at ≡ place + (length (before LF (drop place text)) + 1) = ap (λ (z : Reached). z .at) good in
+      let number : l .number .number ≡ y .number = ap (λ (z : Reached). z .line .number .number) good in
       let content = content-le (before LF (drop place text)) in
       record {
         start-in = omega (arith, g .short);
         length-in = omega (arith, g .short);
         number-in = omega (arith, record-high (y .number) (f .number));
         line-in = omega (arith, g .counted, f .room);
-        next-in = omega arith;
-        next-on = omega arith;
+        behind-in = omega arith;
+        behind-on = omega arith;
       }
 
 -- ---- the start

@@ -19,16 +19,16 @@ module _ (ls : List ℕ) (c : ℕ) (l : Line) where
   pub judge-line : (code : ℕ) → c < LINES → code ≡ l .code → (code ≡ accepted → ⊥) → code ≡ faultIn ls c l
   judge-line code h e f = rw (lt-leb LINES c h, ← e, ne-eqb code accepted f)
 
-  pub judge-twice : (code : ℕ) (a : Bool) → c < LINES → code ≡ l .code → code ≡ accepted → a ≡ hasIn ls (l .number) → a ≡ true
+  pub judge-twice : (code : ℕ) (a : Bool) → c < LINES → code ≡ l .code → code ≡ accepted → a ≡ hasIn ls (l .number .number) → a ≡ true
       → numberTwice ≡ faultIn ls c l
   judge-twice code a h e z p t = rw (lt-leb LINES c h, ← e, eq-eqb code accepted z, ← p, t)
 
-  pub judge-good : (code : ℕ) (a b : Bool) → c < LINES → code ≡ l .code → code ≡ accepted → a ≡ hasIn ls (l .number) → a ≡ false
-      → b ≡ listIn ls (l .parent) → b ≡ true → accepted ≡ faultIn ls c l
+  pub judge-good : (code : ℕ) (a b : Bool) → c < LINES → code ≡ l .code → code ≡ accepted → a ≡ hasIn ls (l .number .number) → a ≡ false
+      → b ≡ listIn ls (l .parent .number) → b ≡ true → accepted ≡ faultIn ls c l
   judge-good code a b h e z p t q u = rw (lt-leb LINES c h, ← e, eq-eqb code accepted z, ← p, t, ← q, u)
 
-  pub judge-missing : (code : ℕ) (a b : Bool) → c < LINES → code ≡ l .code → code ≡ accepted → a ≡ hasIn ls (l .number) → a ≡ false
-      → b ≡ listIn ls (l .parent) → b ≡ false → parentMissing ≡ faultIn ls c l
+  pub judge-missing : (code : ℕ) (a b : Bool) → c < LINES → code ≡ l .code → code ≡ accepted → a ≡ hasIn ls (l .number .number) → a ≡ false
+      → b ≡ listIn ls (l .parent .number) → b ≡ false → parentMissing ≡ faultIn ls c l
   judge-missing code a b h e z p t q u = rw (lt-leb LINES c h, ← e, eq-eqb code accepted z, ← p, t, ← q, u)
 
 pub ruleset judges = (judge-lines, judge-line, judge-twice, judge-good, judge-missing, needs)

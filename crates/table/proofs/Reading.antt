@@ -1,5 +1,5 @@
 -- Reading a table line by line: what is known at a line's start, and what each way on from there gives. text is the table's bytes, ls
--- and fs are the two arrays, l is what is told of the line at the place reached. Assumes nothing.
+-- and fs are the two arrays, r is the line at the place reached, and the place reached by reading it. Assumes nothing.
 use mir.Facts.{ltb-yes, yes-ltb}
 use mathlib.Core.Path.{_≡_, refl, sym, ap, _∙_, subst}
 use mathlib.Core.Bool.{Bool, true, false, cond}
@@ -26,8 +26,8 @@ use Rattle.facts.specs.Asked.{hasIn}
 use Rattle.facts.specs.Holds.{Holds, partAt}
 use Rattle.facts.proofs.Adding.{Added}
 use Rattle.rules.specs.declared.answers.Part.{Part}
-use Rattle.line.specs.declared.Line.{Line}
-use Rattle.line.specs.Told.{nextLine, good}
+use Rattle.line.specs.declared.Reached.{Reached}
+use Rattle.line.specs.Told.{nextLine, reachedFrom, good}
 use Rattle.line.proofs.Telling.{told-fault, told-row}
 use Rattle.readback.proofs.Splitting.{lines-step, before-lt, ended-after, after-drop}
 use Rattle.readback.proofs.Following.{Good, Follows, seen-last, good-more}
@@ -97,16 +97,16 @@ module _ (text ls fs : List ℕ) (place c : ℕ) (g : Reading text place ls fs c
   first-line = lines-step rest some-left (g .whole)
 
   -- the fault found by memory is the fault by the rows
-  told-fault-is : (l : Line) → l ≡ nextLine rest → faultIn ls c l ≡ fault (g .seen) line
-  told-fault-is l e = ap (faultIn ls c) e ∙ go (eqb (lineFault line) accepted) refl
+  told-fault-is : (r : Reached) → r ≡ reachedFrom text place → faultIn ls c (r .line) ≡ fault (g .seen) line
+  told-fault-is r e = ap (λ (z : Reached). faultIn ls c (z .line)) e ∙ go (eqb (lineFault line) accepted) refl
     where
       known : (n : ℕ) → hasIn ls n ≡ stands n (g .seen)
       known = has-stands ls fs (g .seen) (g .holds)
 
-      go : (b : Bool) → eqb (lineFault line) accepted ≡ b → faultIn ls c (nextLine rest) ≡ fault (g .seen) line
+      go : (b : Bool) → eqb (lineFault line) accepted ≡ b → faultIn ls c (nextLine rest .line) ≡ fault (g .seen) line
       go true q =
           let z = eqb-true (lineFault line) accepted q in
-          ap (faultIn ls c) (told-row rest (told-fault rest ∙ z))
+          ap (λ (z : Reached). faultIn ls c (z .line)) (told-row rest (told-fault rest ∙ z))
           ∙ rw (
             q,
             g .counted,
@@ -117,30 +117,33 @@ module _ (text ls fs : List ℕ) (place c : ℕ) (g : Reading text place ls fs c
       go false q = rw (told-fault rest, q, g .counted)
 
   -- a fault ends the reading
-  pub out : (l : Line) (code : ℕ) → l ≡ nextLine rest → code ≡ faultIn ls c l → (code ≡ accepted → ⊥)
+  pub out : (r : Reached) (code : ℕ) → r ≡ reachedFrom text place → code ≡ faultIn ls c (r .line) → (code ≡ accepted → ⊥)
       → Reads text ls fs (told code (c + 1) 0)
-  out l code e q f = refused text ls fs code (c + 1) (sym (g .same) ∙ ap (readLines (g .seen)) first-line ∙ faulty-line)
+  out r code e q f = refused text ls fs code (c + 1) (sym (g .same) ∙ ap (readLines (g .seen)) first-line ∙ faulty-line)
     where
       is : code ≡ fault (g .seen) line
-      is = q ∙ told-fault-is l e
+      is = q ∙ told-fault-is r e
 
       faulty-line : readLines (g .seen) (line ∷ lines (after LF rest)) ≡ unreadable code (c + 1)
       faulty-line = rw (← is, ne-eqb code accepted f, g .counted)
 
   -- ---- the line is good: memory has one row more
 
-  module _ (l : Line) (e : l ≡ nextLine rest) (fine : faultIn ls c l ≡ accepted) where
+  module _ (r : Reached) (e : r ≡ reachedFrom text place) (fine : faultIn ls c (r .line) ≡ accepted) where
     abbrev pub row : Row
     row = rowOf line
 
     faultless : fault (g .seen) line ≡ accepted
-    faultless = sym (told-fault-is l e) ∙ fine
+    faultless = sym (told-fault-is r e) ∙ fine
 
     pub follows : Follows (g .seen) row
     follows = fault-follows (g .seen) line faultless
 
-    pub is-good : l ≡ good line
-    is-good = e ∙ told-row rest (told-fault rest ∙ no-line-fault line (fault-rules (g .seen) line faultless))
+    is-told : nextLine rest ≡ good line
+    is-told = told-row rest (told-fault rest ∙ no-line-fault line (fault-rules (g .seen) line faultless))
+
+    pub is-good : r ≡ record { line = good line .line; at = place + good line .at }
+    is-good = e ∙ (λ i. record { line = is-told i .line; at = place + is-told i .at })
 
     read-on : readLines (g .seen ++ (row ∷ [])) (lines (after LF rest)) ≡ verdict text
     read-on = sym good-line ∙ ap (readLines (g .seen)) (sym first-line) ∙ g .same
@@ -148,14 +151,14 @@ module _ (text ls fs : List ℕ) (place c : ℕ) (g : Reading text place ls fs c
         good-line : readLines (g .seen) (line ∷ lines (after LF rest)) ≡ readLines (g .seen ++ (row ∷ [])) (lines (after LF rest))
         good-line = rw (eq-eqb (fault (g .seen) line) accepted faultless)
 
-    left : after LF rest ≡ drop (place + l .next) text
+    left : after LF rest ≡ drop (r .at) text
     left =
         after-drop LF rest ∙ ap (λ (k : ℕ). drop k rest) (sym (add-one (length line))) ∙ drop-drop (length line + 1) place text
-        ∙ ap (λ (k : ℕ). drop (place + k) text) (λ i. sym is-good i .next)
+        ∙ (λ i. drop (sym is-good i .at) text)
 
-    module _ (ls′ fs′ : List ℕ) (w : Added ls fs ls′ fs′ (g .seen) row (place + l .start) (l .length)) where
+    module _ (ls′ fs′ : List ℕ) (w : Added ls fs ls′ fs′ (g .seen) row (place + r .line .start) (r .line .length)) where
       abbrev next-parts : ℕ → Part
-      next-parts n = partFrom n (place + l .next) (lines (drop (place + l .next) text))
+      next-parts n = partFrom n (r .at) (lines (drop (r .at) text))
 
       abbrev this-part : Part
       this-part = record { start = place + (length line - length (contentPart line)); length = length (contentPart line) }
@@ -172,13 +175,14 @@ module _ (text ls fs : List ℕ) (place c : ℕ) (g : Reading text place ls fs c
           let known : hasIn ls′ (row .number) ≡ true =
           is-true (hasIn ls′ (row .number)) (yes-ltb (w .holds .known (row .number) (seen-last (g .seen) row (row .number) refl))) in
           ap (λ (b : Bool). cond b (partAt ls fs (row .number)) (partFrom (row .number) place (line ∷ lines (after LF rest)))) not-yet
-          ∙ told-here ∙ (λ i. record { start = place + sym is-good i .start; length = sym is-good i .length }) ∙ sym (w .part-new)
+          ∙ told-here ∙ (λ i. record { start = place + sym is-good i .line .start; length = sym is-good i .line .length })
+          ∙ sym (w .part-new)
           ∙ ap (λ (b : Bool). cond b (partAt ls′ fs′ (row .number)) (next-parts (row .number))) (sym known)
 
       skipped : (n : ℕ) → (n ≡ row .number → ⊥) → partFrom n place (line ∷ lines (after LF rest)) ≡ next-parts n
       skipped n q =
           rw (ne-eqb (row .number) n (λ d. q (sym d)))
-          ((λ i. partFrom n (place + sym is-good i .next) (lines (left i))))
+          ((λ i. partFrom n (sym is-good i .at) (lines (left i))))
 
       other : (n : ℕ) → (n ≡ row .number → ⊥) → (b : Bool) → hasIn ls n ≡ b
           → cond b (partAt ls fs n) (partFrom n place (line ∷ lines (after LF rest))) ≡ cond b (partAt ls′ fs′ n) (next-parts n)
@@ -198,12 +202,12 @@ module _ (text ls fs : List ℕ) (place c : ℕ) (g : Reading text place ls fs c
           go (no q) =
               other n q (hasIn ls n) refl ∙ ap (λ (k : ℕ). cond (ltb 0 k) (partAt ls′ fs′ n) (next-parts n)) (sym (w .lines-same n q))
 
-      pub on : Reading text (place + l .next) ls′ fs′ (c + 1)
+      pub on : Reading text (r .at) ls′ fs′ (c + 1)
       on = record {
         seen = g .seen ++ (row ∷ []);
         counted = omega (arith, g .counted, length-append (g .seen) (row ∷ []));
         good = good-more [] (g .seen) row (g .good) follows;
-        within = omega (arith, before-lt rest some-left (g .whole), length-drop place text, ap (λ (z : Line). z .next) is-good);
+        within = omega (arith, before-lt rest some-left (g .whole), length-drop place text, ap (λ (z : Reached). z .at) is-good);
         short = g .short;
         whole = subst (λ (s : List ℕ). ended s ≡ true) left (ended-after rest (g .whole));
         same = ap (λ (s : List ℕ). readLines (g .seen ++ (row ∷ [])) (lines s)) (sym left) ∙ read-on;

@@ -1,5 +1,6 @@
 -- The reading of lines, way by way, as the code goes. text is the table's bytes, ls and fs are the two arrays, c is the count of lines
--- so far, l what is told of the line at the place reached, code its fault; a prime marks the arrays with one line more. Assumes nothing.
+-- so far, r the line at the place reached, and the place reached by reading it, code its fault; a prime marks the arrays with one line
+-- more. Assumes nothing.
 use mathlib.Core.Path.{_≡_, sym, ap, _∙_, subst}
 use mathlib.Core.Bool.{Bool, true, false, not}
 use mathlib.Core.List.{List, []}
@@ -7,7 +8,7 @@ use Prim.Native.Nat.{ℕ, _+_, _-_, _<_, _≤_}
 use native.Mathlib.Omega.{arith}
 use mir.Val.{Fits}
 use mir.Syntax.{w32, w64}
-use lib.ListN.{length, drop, getD, set}
+use lib.ListN.{length, getD, set}
 use lib.Seq.{getD-set-same, getD-set-other}
 use borrow.Author.Needs.{needs}
 use borrow.Author.Tests.{not-true, not-false}
@@ -17,7 +18,8 @@ use Rattle.rules.specs.Text.{LF, count, ended}
 use Rattle.readback.proofs.Splitting.{count-le}
 use Rattle.facts.specs.Memory.{TABLES, NUMBERS, ROOM, LAST, field, addLine, addFacts, noLines, noFacts, opened}
 use Rattle.line.specs.declared.Line.{Line}
-use Rattle.line.specs.Told.{nextLine}
+use Rattle.line.specs.declared.Reached.{Reached}
+use Rattle.line.specs.Told.{reachedFrom}
 use Rattle.table.specs.declared.Read.{Read}
 use Rattle.table.specs.Read.{told, faultIn, Begins, Reads, Fills}
 use Rattle.table.proofs.Reading.{Reading, too-long, not-ended, out, finish}
@@ -30,41 +32,44 @@ module _ (text ls fs : List ℕ) (place c : ℕ) (g : Reading text place ls fs c
   pub line-small : Fits w32 (c + 1)
   line-small = record { fits = omega (arith, reading-few text ls fs place c g) }
 
-module _ (text ls fs : List ℕ) (place c code : ℕ) (l : Line) (g : Reading text place ls fs c) (more : place < length text)
-    (e : l ≡ nextLine (drop place text)) (q : code ≡ faultIn ls c l) where
-  pub faulty-line : (r : Read) → (code ≡ accepted → ⊥) → r ≡ told code (c + 1) 0 → Reads text ls fs r
-  faulty-line r f d = subst (Reads text ls fs) (sym d) (out text ls fs place c g more l code e q f)
+module _ (text ls fs : List ℕ) (place c code : ℕ) (r : Reached) (g : Reading text place ls fs c) (more : place < length text)
+    (e : r ≡ reachedFrom text place) (q : code ≡ faultIn ls c (r .line)) where
+  abbrev l : Line
+  l = r .line
+
+  pub faulty-line : (a : Read) → (code ≡ accepted → ⊥) → a ≡ told code (c + 1) 0 → Reads text ls fs a
+  faulty-line a f d = subst (Reads text ls fs) (sym d) (out text ls fs place c g more r code e q f)
 
   module _ (z : code ≡ accepted) where
     fine : faultIn ls c l ≡ accepted
     fine = sym q ∙ z
 
     pub start-fits : Fits w64 (place + l .start)
-    start-fits = record { fits = omega (arith, small text ls fs place c g more l e fine .start-in) }
+    start-fits = record { fits = omega (arith, small text ls fs place c g more r e fine .start-in) }
 
     pub start-small : Fits w32 (place + l .start)
-    start-small = record { fits = omega (arith, small text ls fs place c g more l e fine .start-in) }
+    start-small = record { fits = omega (arith, small text ls fs place c g more r e fine .start-in) }
 
     pub length-small : Fits w32 (l .length)
-    length-small = record { fits = omega (arith, small text ls fs place c g more l e fine .length-in) }
+    length-small = record { fits = omega (arith, small text ls fs place c g more r e fine .length-in) }
 
     pub line-room : c + 1 < ROOM
-    line-room = small text ls fs place c g more l e fine .line-in
+    line-room = small text ls fs place c g more r e fine .line-in
 
-    pub number-room : l .number < NUMBERS
-    number-room = small text ls fs place c g more l e fine .number-in
+    pub number-room : l .number .number < NUMBERS
+    number-room = small text ls fs place c g more r e fine .number-in
 
-    pub next-fits : Fits w64 (place + l .next)
-    next-fits = record { fits = omega (arith, small text ls fs place c g more l e fine .next-in, g .short) }
+    pub less-left : length text - r .at < length text - place
+    less-left = omega (arith, small text ls fs place c g more r e fine .behind-on)
 
-    pub less-left : length text - (place + l .next) < length text - place
-    less-left = omega (arith, small text ls fs place c g more l e fine .next-on)
+    abbrev lines-on : List ℕ
+    lines-on = addLine ls (c + 1) (l .number .number)
 
-    pub good-line : (ls′ fs′ : List ℕ) → ls′ ≡ addLine ls (c + 1) (l .number)
-        → fs′ ≡ addFacts (addLine ls (c + 1) (l .number)) fs (c + 1) (l .number) (l .parent) (field ls fs (l .parent) LAST)
+    pub good-line : (ls′ fs′ : List ℕ) → ls′ ≡ lines-on
+        → fs′ ≡ addFacts lines-on fs (c + 1) (l .number .number) (l .parent .number) (field ls fs (l .parent .number) LAST)
         (place + l .start) (l .length)
-        → Reading text (place + l .next) ls′ fs′ (c + 1)
-    good-line ls′ fs′ p d = goes-on text ls fs place c g more l e fine ls′ fs′ p d
+        → Reading text (r .at) ls′ fs′ (c + 1)
+    good-line ls′ fs′ p d = goes-on text ls fs place c g more r e fine ls′ fs′ p d
 
 -- ---- the whole text
 
@@ -110,7 +115,6 @@ pub ruleset steps = (
   length-small,
   line-room,
   number-room,
-  next-fits,
   less-left,
   good-line,
   long-text,

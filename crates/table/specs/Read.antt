@@ -45,8 +45,8 @@ abbrev pub faultIn : List ℕ → ℕ → Line → ℕ
 faultIn ls count l =
     cond (leb LINES count) tooManyLines
     (cond (not (eqb (l .code) accepted)) (l .code)
-    (cond (hasIn ls (l .number)) numberTwice
-    (cond (not (listIn ls (l .parent))) parentMissing accepted)))
+    (cond (hasIn ls (l .number .number)) numberTwice
+    (cond (not (listIn ls (l .parent .number))) parentMissing accepted)))
 
 -- ---- tables side by side
 

@@ -63,10 +63,12 @@ fn fault_of(lines: &[u16; NUMBERS], count: usize, l: Line) -> u32
     if code != ACCEPTED {
         return code;
     }
-    if has(lines, l.number) {
+    let number = l.number;
+    if has(lines, number) {
         return NUMBER_TWICE;
     }
-    if list(lines, l.parent) {
+    let parent = l.parent;
+    if list(lines, parent) {
         return ACCEPTED;
     }
     PARENT_MISSING
@@ -80,16 +82,19 @@ fn read_lines(text: &[u8], lines: &mut [u16; NUMBERS], facts: &mut [u32; FACTS])
     let mut at: usize = 0;
     let mut count: usize = 0;
     while at < text.len() {
-        let l = line_at(text, at);
+        let reached = line_at(text, at);
+        let l = reached.line;
         let code = fault_of(lines, count, l);
         if code != ACCEPTED {
             return refused(code, (count + 1) as u32);
         }
+        let number = l.number;
+        let parent = l.parent;
         let start = (at + l.start) as u32;
         let length = l.length as u32;
         count += 1;
-        add_line(lines, facts, count, l.number, l.parent, start, length);
-        at += l.next;
+        add_line(lines, facts, count, number, parent, start, length);
+        at = reached.at;
     }
     Read {
         code: ACCEPTED,

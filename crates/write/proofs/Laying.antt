@@ -1,7 +1,7 @@
 -- Memory that stores a table lays its tree down: following the links from the top's first child on goes through the tree. And what
 -- writing a whole table asks and does. texts are those that hold the contents, ls and fs the two arrays, t is the table's rows, f a
 -- tree, a and b are facts; r is a parent, p the one before. Assumes nothing.
-use mathlib.Core.Path.{_≡_, refl, sym, subst}
+use mathlib.Core.Path.{_≡_, refl, sym, ap, subst, _∙_}
 use mathlib.Core.List.{List, List·Memᴰ·head as here, List·Memᴰ·tail as there, Memᴰ·append-left, Memᴰ·append-right}
 use Prim.Native.Nat.{ℕ}
 use native.Mathlib.Omega.{arith}
@@ -87,24 +87,29 @@ module _ (texts : List (List ℕ)) (ls fs : List ℕ) where
         laid-by (factsOf t .positions) (factsOf t .contents) (linked ls fs t (s .holds) (s .readable)) content-valid content-has
         content-reads TOP START (treeOf t) (is .positions-in) (is .contents-in)
 
-  -- ---- a whole table written
+  -- ---- a whole table written; r is the top, as the code has it
 
-  pub table-first : (count room first : ℕ) → TableReady texts ls fs count room → first ≡ field ls fs TOP FIRST
-      → ListReady texts ls fs TOP first 0 count room
-  table-first count room first w e = record {
+  first-at : {r : ℕ} → r ≡ TOP → field ls fs r FIRST ≡ field ls fs TOP FIRST
+  first-at h = ap (λ (k : ℕ). field ls fs k FIRST) h
+
+  pub table-first : (r count room first : ℕ) → TableReady texts ls fs count room → r ≡ TOP → first ≡ field ls fs r FIRST
+      → ListReady texts ls fs r first 0 count room
+  table-first r count room first w h e = subst (λ (k : ℕ). ListReady texts ls fs k first 0 count room) (sym h) record {
     tree = treeOf (w .t);
-    laid = subst (λ (k : ℕ). Laid texts ls fs k (treeOf (w .t))) (sym e) (table-laid (w .t) (w .stored));
+    laid = subst (λ (k : ℕ). Laid texts ls fs k (treeOf (w .t))) (sym (e ∙ first-at h)) (table-laid (w .t) (w .stored));
     few = omega (arith, rows-count (w .t) (w .stored .readable), w .counted);
     fits = omega (arith, w .fits);
   }
 
-  pub table-written : (count first : ℕ) {out out′ : List ℕ} {at′ left′ : ℕ} → TableReady texts ls fs count (length out)
-      → first ≡ field ls fs TOP FIRST → ListWritten texts ls fs TOP first out out′ 0 count at′ left′
-      → TableWritten texts ls fs out out′
-  table-written count first {out} {out′} {at′} {left′} w e v = record { all = go }
+  pub table-written : (r count first : ℕ) {out out′ : List ℕ} {at′ left′ : ℕ} → TableReady texts ls fs count (length out) → r ≡ TOP
+      → first ≡ field ls fs r FIRST → ListWritten texts ls fs r first out out′ 0 count at′ left′ → TableWritten texts ls fs out out′
+  table-written r count first {out} {out′} {at′} {left′} w h e v = record { all = go }
     where
+      top : ListWritten texts ls fs TOP first out out′ 0 count at′ left′
+      top = subst (λ (k : ℕ). ListWritten texts ls fs k first out out′ 0 count at′ left′) h v
+
       done : (t : List Row) → Stored texts ls fs t → Done out out′ 0 count at′ left′ (tidied t) (length (rows TOP (treeOf t)))
-      done t s = v .all (treeOf t) (subst (λ (k : ℕ). Laid texts ls fs k (treeOf t)) (sym e) (table-laid t s))
+      done t s = top .all (treeOf t) (subst (λ (k : ℕ). Laid texts ls fs k (treeOf t)) (sym (e ∙ first-at h)) (table-laid t s))
 
       go : (t : List Row) → Stored texts ls fs t → out′ ≡ over (tidied t) out
       go t s =

@@ -2,11 +2,14 @@
 -- those that hold the contents, ls and fs the two arrays; r is a parent, n a record or END, f a tree; `at` is the place of the next
 -- byte, `left` the count of records still unwritten. Assumes nothing.
 use mathlib.Core.Path.{_≡_, refl, sym, ap, _∙_, subst}
+use mathlib.Core.Bool.{Bool, true, false, not}
 use mathlib.Core.List.{List, [], _∷_, _++_, append-assoc}
 use Prim.Native.Nat.{ℕ, suc, _+_, _-_, _<_, _≤_}
 use native.Mathlib.Omega.{arith}
+use lib.Dec.{eqb}
 use lib.ListN.{length, length-append}
 use borrow.Author.Needs.{needs}
+use borrow.Author.Tests.{eqb-true, eqb-false, not-true, not-false}
 use Rattle.rules.specs.Marks.{END}
 use Rattle.rules.specs.Line.{Content, Row}
 use Rattle.rules.specs.Tree.{Tree, empty, node, rows}
@@ -141,10 +144,11 @@ module _ (texts : List (List ℕ)) (ls fs : List ℕ) (r n : ℕ) where
           record { put = put-then p (y .put); rest = omega (arith, y .rest) }
 
 -- a record without a child
-pub record-leaf : (texts : List (List ℕ)) (ls fs : List ℕ) (r n : ℕ) {out mid : List ℕ} {at left atm : ℕ} (first : ℕ) → 0 < left
-    → Put out mid at atm (line (rowAt texts ls fs r n)) → first ≡ field ls fs n FIRST → first ≡ END
+pub record-leaf : (texts : List (List ℕ)) (ls fs : List ℕ) (r n : ℕ) {out mid : List ℕ} {at left atm : ℕ} (first : ℕ) (y : Bool)
+    → 0 < left → Put out mid at atm (line (rowAt texts ls fs r n)) → first ≡ field ls fs n FIRST → y ≡ true → y ≡ eqb first END
     → RecordWritten texts ls fs r n out mid at left atm (left - 1)
-record-leaf texts ls fs r n first h p q e = record-more texts ls fs r n first h p q (list-none texts ls fs n first e)
+record-leaf texts ls fs r n first y h p q t e =
+    record-more texts ls fs r n first h p q (list-none texts ls fs n first (eqb-true first END (sym e ∙ t)))
 
 -- ---- a list, as the loop goes through it
 
@@ -160,30 +164,34 @@ module _ (texts : List (List ℕ)) (ls fs : List ℕ) (r n : ℕ) (out : List �
   pub reached-start : ListReady texts ls fs r n at left (length out) → Reached n out at left
   reached-start w = record { ready = w; few = omega arith; long = refl; whole = λ out′ at′ left′ v. v }
 
-  module _ (next : ℕ) {out₁ : List ℕ} {at₁ left₁ : ℕ} (w : Reached next out₁ at₁ left₁) where
-    pub reached-record : (next ≡ END → ⊥) → RecordReady texts ls fs r next at₁ left₁ (length out₁)
-    reached-record z = list-first texts ls fs r next at₁ left₁ (length out₁) (w .ready) z
+  -- y is whether `next` is END
+  module _ (next : ℕ) {out₁ : List ℕ} {at₁ left₁ : ℕ} (w : Reached next out₁ at₁ left₁) (y : Bool) (e : y ≡ eqb next END) where
+    no-end : not y ≡ true → next ≡ END → ⊥
+    no-end t = eqb-false next END (sym e ∙ not-true y t)
+
+    pub reached-record : not y ≡ true → RecordReady texts ls fs r next at₁ left₁ (length out₁)
+    reached-record t = list-first texts ls fs r next at₁ left₁ (length out₁) (w .ready) (no-end t)
 
     -- the count of records still unwritten falls
-    pub reached-falls : {out₂ : List ℕ} {at₂ left₂ : ℕ} → (next ≡ END → ⊥)
+    pub reached-falls : {out₂ : List ℕ} {at₂ left₂ : ℕ} → not y ≡ true
         → RecordWritten texts ls fs r next out₁ out₂ at₁ left₁ at₂ left₂ → left₂ < left₁
-    reached-falls z d = let v = reached-record z in omega (arith, d .all (v .below) (v .laid) .rest)
+    reached-falls t d = let v = reached-record t in omega (arith, d .all (v .below) (v .laid) .rest)
 
-    pub reached-on : {out₂ : List ℕ} {at₂ left₂ : ℕ} (onward : ℕ) → (next ≡ END → ⊥)
+    pub reached-on : {out₂ : List ℕ} {at₂ left₂ : ℕ} (onward : ℕ) → not y ≡ true
         → RecordWritten texts ls fs r next out₁ out₂ at₁ left₁ at₂ left₂ → onward ≡ field ls fs next FOLLOWER
         → Reached onward out₂ at₂ left₂
-    reached-on {out₂} {at₂} {left₂} onward z d q =
-        let v = reached-record z in
+    reached-on {out₂} {at₂} {left₂} onward t d q =
+        let v = reached-record t in
         let x = d .all (v .below) (v .laid) in
         record {
-          ready = list-rest texts ls fs r next at₁ left₁ onward (w .ready) z d q;
+          ready = list-rest texts ls fs r next at₁ left₁ onward (w .ready) (no-end t) d q;
           few = omega (arith, w .few, x .rest);
           long = x .put .long ∙ w .long;
-          whole = λ out′ at′ left′ y. w .whole out′ at′ left′ (list-more texts ls fs r next onward z d q y);
+          whole = λ out′ at′ left′ v. w .whole out′ at′ left′ (list-more texts ls fs r next onward (no-end t) d q v);
         }
 
-    pub reached-end : next ≡ END → ListWritten texts ls fs r n out out₁ at left at₁ left₁
-    reached-end e = w .whole out₁ at₁ left₁ (list-none texts ls fs r next e)
+    pub reached-end : not y ≡ false → ListWritten texts ls fs r n out out₁ at left at₁ left₁
+    reached-end t = w .whole out₁ at₁ left₁ (list-none texts ls fs r next (eqb-true next END (sym e ∙ not-false y t)))
 
 pub ruleset lists = (reached-start, reached-record, reached-falls, reached-on, reached-end, needs)
 

@@ -10,6 +10,7 @@ use facts::PLACE;
 use facts::SPAN;
 use facts::TEXTS;
 use facts::field;
+use facts::record_in;
 use rules::record::Record;
 use text::text_of;
 ghost use mathlib.Core.Path.{_≡_};
@@ -45,14 +46,14 @@ fn write_row<'a>(
     facts: &[u32; FACTS],
     out: &mut [u8],
     at: usize,
-    r: u32,
-    n: u32,
+    r: Record,
+    n: Record,
 ) -> usize
-    requires { ⌜ HasContent (map now (now texts)) (now lines) (now facts) n
-        × (at + length (line (rowAt (map now (now texts)) (now lines) (now facts) r n)) ≤ length (now out)) ⌝ }
+    requires { ⌜ HasContent (map now (now texts)) (now lines) (now facts) (n .number)
+        × (at + length (line (rowAt (map now (now texts)) (now lines) (now facts) (r .number) (n .number))) ≤ length (now out)) ⌝ }
     ensures { λ z.
         ⌜ Put (now (out .entry)) (now (out .exit)) at z
-        (line (rowAt (map now (now (texts .entry))) (now (lines .entry)) (now (facts .entry)) r n)) ⌝ }
+        (line (rowAt (map now (now (texts .entry))) (now (lines .entry)) (now (facts .entry)) (r .number) (n .number))) ⌝ }
 {
     let place = field(lines, facts, n, PLACE);
     let long = field(lines, facts, n, LENGTH);
@@ -68,19 +69,19 @@ fn write_record<'a>(
     facts: &[u32; FACTS],
     out: &mut [u8],
     p: Progress,
-    r: u32,
-    n: u32,
+    r: Record,
+    n: Record,
 ) -> Progress
-    requires { ⌜ RecordReady (map now (now texts)) (now lines) (now facts) r n (p .at) (p .left) (length (now out)) ⌝ }
+    requires { ⌜ RecordReady (map now (now texts)) (now lines) (now facts) (r .number) (n .number) (p .at) (p .left) (length (now out)) ⌝ }
     ensures { λ z.
-        ⌜ RecordWritten (map now (now (texts .entry))) (now (lines .entry)) (now (facts .entry)) r n
+        ⌜ RecordWritten (map now (now (texts .entry))) (now (lines .entry)) (now (facts .entry)) (r .number) (n .number)
         (now (out .entry)) (now (out .exit)) (p .at) (p .left) (z .at) (z .left) ⌝ }
 {
-    let first = field(lines, facts, n, FIRST);
+    let first = record_in(lines, facts, n, FIRST);
     let at = write_row(texts, lines, facts, out, p.at, r, n);
     let left = p.left - 1;
     let q = Progress { at, left };
-    if first == Record::END.number {
+    if first.is_end() {
         return q;
     }
     write_list(texts, lines, facts, out, q, n, first)
@@ -93,18 +94,18 @@ fn write_list<'a>(
     facts: &[u32; FACTS],
     out: &mut [u8],
     p: Progress,
-    r: u32,
-    n: u32,
+    r: Record,
+    n: Record,
 ) -> Progress
-    requires { ⌜ ListReady (map now (now texts)) (now lines) (now facts) r n (p .at) (p .left) (length (now out)) ⌝ }
+    requires { ⌜ ListReady (map now (now texts)) (now lines) (now facts) (r .number) (n .number) (p .at) (p .left) (length (now out)) ⌝ }
     ensures { λ z.
-        ⌜ ListWritten (map now (now (texts .entry))) (now (lines .entry)) (now (facts .entry)) r n
+        ⌜ ListWritten (map now (now (texts .entry))) (now (lines .entry)) (now (facts .entry)) (r .number) (n .number)
         (now (out .entry)) (now (out .exit)) (p .at) (p .left) (z .at) (z .left) ⌝ }
 {
     let mut q = p;
     let mut next = n;
-    while next != Record::END.number {
-        let after = field(lines, facts, next, FOLLOWER);
+    while !next.is_end() {
+        let after = record_in(lines, facts, next, FOLLOWER);
         q = write_record(texts, lines, facts, out, q, r, next);
         next = after;
     }
@@ -124,8 +125,8 @@ pub fn write_table<'a>(
         ⌜ TableWritten (map now (now (texts .entry))) (now (lines .entry)) (now (facts .entry))
         (now (out .entry)) (now (out .exit)) ⌝ }
 {
-    let top = Record::TOP.number;
-    let first = field(lines, facts, top, FIRST);
+    let top = Record::top();
+    let first = record_in(lines, facts, top, FIRST);
     write_list(
         texts,
         lines,

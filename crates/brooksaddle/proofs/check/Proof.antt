@@ -8,19 +8,19 @@ use Rattle.brooksaddle.proofs.check.Lts as lts
 use Rattle.depth.proofs.deepest.Reads as deepest-reads
 use Rattle.table.proofs.read_table.Reads as read-table-reads
 
--- src/lib.rt:33:9
+-- src/lib.rt:34:9
 read-table-requires : tie.Need-read-table-requires
 read-table-requires c κs = search needs
 
--- src/lib.rt:36:9
+-- src/lib.rt:37:9
 returns : tie.Need-returns
 returns c = search tellings
 
--- src/lib.rt:44:9
+-- src/lib.rt:45:9
 deepest-requires : tie.Need-deepest-requires
 deepest-requires c κs = search tellings
 
--- src/lib.rt:28:1
+-- src/lib.rt:29:1
 returns-2 : tie.Need-returns-2
 returns-2 c = search tellings
 

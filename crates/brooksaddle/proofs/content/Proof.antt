@@ -10,32 +10,32 @@ use Rattle.brooksaddle.proofs.content.Reads as reads
 use Rattle.brooksaddle.proofs.content.Lts as lts
 use Rattle.brooksaddle.proofs.content_part.Reads as content-part-reads
 
--- src/lib.rt:176:9
+-- src/lib.rt:178:9
 content-part-requires : tie.Need-content-part-requires
 content-part-requires c κs = search needs
 
--- src/lib.rt:178:15
+-- src/lib.rt:180:15
 add-end : tie.Need-add-end
 add-end c =
     let s = c .before .before .before .args in
     let within = part-in (now (s .text)) (s .number) _ (c .before .content-part .ensures) in
     record { fits = omega (arith, within) }
 
--- src/lib.rt:179:5
+-- src/lib.rt:181:5
 sub-result : tie.Need-sub-result
 sub-result c = search needs
 
--- src/lib.rt:179:5
+-- src/lib.rt:181:5
 part-result-start : tie.Need-part-result-start
 part-result-start c = search needs
 
--- src/lib.rt:179:5
+-- src/lib.rt:181:5
 part-result-end : tie.Need-part-result-end
 part-result-end c =
     let s = c .before .before .before .args in
     part-in (now (s .text)) (s .number) _ (c .before .content-part .ensures)
 
--- src/lib.rt:173:1
+-- src/lib.rt:175:1
 returns : tie.Need-returns
 returns c =
     let s = c .before .before .before .before .args in

@@ -8,31 +8,31 @@ use Rattle.brooksaddle.proofs.tidy.Lts as lts
 use Rattle.table.proofs.read_table.Reads as read-table-reads
 use Rattle.write.proofs.write_table.Reads as write-table-reads
 
--- src/lib.rt:69:9
+-- src/lib.rt:70:9
 read-table-requires : tie.Need-read-table-requires
 read-table-requires c κs = search needs
 
--- src/lib.rt:72:9
+-- src/lib.rt:73:9
 returns : tie.Need-returns
 returns c = search tellings
 
--- src/lib.rt:80:9
+-- src/lib.rt:81:9
 returns-2 : tie.Need-returns-2
 returns-2 c = search tellings
 
--- src/lib.rt:87:17
+-- src/lib.rt:88:17
 slice-aggregate-write-table : tie.Need-slice-aggregate-write-table
 slice-aggregate-write-table c = search needs
 
--- src/lib.rt:87:5
+-- src/lib.rt:88:5
 write-table-requires : tie.Need-write-table-requires
 write-table-requires c κs = search tellings
 
--- src/lib.rt:64:1
+-- src/lib.rt:65:1
 same-length : tie.Need-same-length
 same-length c = search needs
 
--- src/lib.rt:64:1
+-- src/lib.rt:65:1
 returns-3 : tie.Need-returns-3
 returns-3 c = search tellings
 

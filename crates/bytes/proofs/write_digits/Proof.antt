@@ -13,47 +13,47 @@ Inv-loop n out₀ at end rest₀ to₀ out rest to = Digits out₀ out at n rest
 abbrev μ-loop : tie.MeasureT-loop
 μ-loop n out₀ at end rest₀ to₀ out rest to = to - at
 
--- src/lib.rt:43:20
+-- src/lib.rt:44:20
 width-requires : tie.Need-width-requires Inv-loop μ-loop
 width-requires c κs = search digitings
 
--- src/lib.rt:43:15
+-- src/lib.rt:44:15
 add-end : tie.Need-add-end Inv-loop μ-loop
 add-end c = search digitings
 
--- src/lib.rt:46:5
+-- src/lib.rt:47:5
 loop-holds : tie.Need-loop-holds Inv-loop μ-loop
 loop-holds c = search digitings
 
--- src/lib.rt:47:9
+-- src/lib.rt:48:9
 sub-to : tie.Need-sub-to Inv-loop μ-loop
 sub-to c = search digitings
 
--- src/lib.rt:48:26
+-- src/lib.rt:49:26
 cast-out : tie.Need-cast-out Inv-loop μ-loop
 cast-out c = search digitings
 
--- src/lib.rt:48:19
+-- src/lib.rt:49:19
 add-out : tie.Need-add-out Inv-loop μ-loop
 add-out c = search digitings
 
--- src/lib.rt:48:9
+-- src/lib.rt:49:9
 slice-write-out : tie.Need-slice-write-out Inv-loop μ-loop
 slice-write-out c = search digitings
 
--- src/lib.rt:46:5
+-- src/lib.rt:47:5
 loop-less : tie.Need-loop-less Inv-loop μ-loop
 loop-less c = search digitings
 
--- src/lib.rt:46:5
+-- src/lib.rt:47:5
 loop-again : tie.Need-loop-again Inv-loop μ-loop
 loop-again c = search digitings
 
--- src/lib.rt:38:1
+-- src/lib.rt:39:1
 same-length : tie.Need-same-length Inv-loop μ-loop
 same-length c = search digitings
 
--- src/lib.rt:38:1
+-- src/lib.rt:39:1
 returns : tie.Need-returns Inv-loop μ-loop
 returns c = search digitings
 

@@ -7,23 +7,23 @@ use Rattle.bytes.proofs.write_field.Reads as reads
 use Rattle.bytes.proofs.write_field.Lts as lts
 use Rattle.bytes.proofs.write_digits.Reads as write-digits-reads
 
--- src/lib.rt:60:9
+-- src/lib.rt:61:9
 write-digits-requires : tie.Need-write-digits-requires
 write-digits-requires c κs = search needs
 
--- src/lib.rt:61:5
+-- src/lib.rt:62:5
 slice-write-out : tie.Need-slice-write-out
 slice-write-out c = search needs
 
--- src/lib.rt:62:5
+-- src/lib.rt:63:5
 add-result : tie.Need-add-result
 add-result c = search needs
 
--- src/lib.rt:55:1
+-- src/lib.rt:56:1
 same-length : tie.Need-same-length
 same-length c = search needs
 
--- src/lib.rt:55:1
+-- src/lib.rt:56:1
 returns : tie.Need-returns
 returns c = search puts
 

@@ -10,31 +10,31 @@ use Rattle.bytes.proofs.write_line.Lts as lts
 use Rattle.bytes.proofs.copy.Reads as copy-reads
 use Rattle.bytes.proofs.write_field.Reads as write-field-reads
 
--- src/lib.rt:137:9
+-- src/lib.rt:138:9
 write-field-requires : tie.Need-write-field-requires
 write-field-requires c κs = search needs
 
--- src/lib.rt:138:9
+-- src/lib.rt:139:9
 write-field-requires-2 : tie.Need-write-field-requires-2
 write-field-requires-2 c κs = search needs
 
--- src/lib.rt:139:9
+-- src/lib.rt:140:9
 copy-requires : tie.Need-copy-requires
 copy-requires c κs = search needs
 
--- src/lib.rt:140:16
+-- src/lib.rt:141:16
 add-next : tie.Need-add-next
 add-next c = search needs
 
--- src/lib.rt:141:5
+-- src/lib.rt:142:5
 slice-write-out : tie.Need-slice-write-out
 slice-write-out c = search needs
 
--- src/lib.rt:131:1
+-- src/lib.rt:132:1
 same-length : tie.Need-same-length
 same-length c = simp length-set (omega arith)
 
--- src/lib.rt:131:1
+-- src/lib.rt:132:1
 returns : tie.Need-returns
 returns c = search puts
 

@@ -8,43 +8,43 @@ use Rattle.contents.proofs.content_on.Lts as lts
 use Rattle.contents.proofs.cut.Reads as cut-reads
 use Rattle.facts.proofs.field_on.Reads as field-on-reads
 
--- src/lib.rt:128:26
+-- src/lib.rt:129:26
 mul-field-on : tie.Need-mul-field-on
 mul-field-on c = search needs
 
--- src/lib.rt:128:26
+-- src/lib.rt:129:26
 index-1-field-on : tie.Need-index-1-field-on
 index-1-field-on c = search needs
 
--- src/lib.rt:128:9
+-- src/lib.rt:129:9
 field-on-requires : tie.Need-field-on-requires
 field-on-requires c κs = search needs
 
--- src/lib.rt:129:25
+-- src/lib.rt:130:25
 mul-field-on-2 : tie.Need-mul-field-on-2
 mul-field-on-2 c = search needs
 
--- src/lib.rt:129:25
+-- src/lib.rt:130:25
 index-1-field-on-2 : tie.Need-index-1-field-on-2
 index-1-field-on-2 c = search needs
 
--- src/lib.rt:129:9
+-- src/lib.rt:130:9
 field-on-requires-2 : tie.Need-field-on-requires-2
 field-on-requires-2 c κs = search needs
 
--- src/lib.rt:130:9
+-- src/lib.rt:131:9
 mul-cut : tie.Need-mul-cut
 mul-cut c = search needs
 
--- src/lib.rt:130:9
+-- src/lib.rt:131:9
 shared-slice-copy-out-cut : tie.Need-shared-slice-copy-out-cut
 shared-slice-copy-out-cut c = search needs
 
--- src/lib.rt:130:5
+-- src/lib.rt:131:5
 cut-requires : tie.Need-cut-requires
 cut-requires c κs = search needs
 
--- src/lib.rt:119:1
+-- src/lib.rt:120:1
 returns : tie.Need-returns
 returns c = search cuts-on
 

@@ -8,15 +8,15 @@ use Rattle.contents.proofs.content_place.Lts as lts
 use Rattle.contents.proofs.two_contents.Reads as two-contents-reads
 use Rattle.edits.proofs.place.Reads as place-reads
 
--- src/lib.rt:235:9
+-- src/lib.rt:240:9
 two-contents-requires : tie.Need-two-contents-requires
 two-contents-requires c κs = search needs
 
--- src/lib.rt:236:5
+-- src/lib.rt:241:5
 place-requires : tie.Need-place-requires
 place-requires c κs = search needs
 
--- src/lib.rt:223:1
+-- src/lib.rt:228:1
 returns : tie.Need-returns
 returns c = search asks
 

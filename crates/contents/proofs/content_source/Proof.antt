@@ -14,36 +14,36 @@ use Rattle.contents.proofs.content_source.Lts as lts
 use Rattle.contents.proofs.marks.edited.Reads as edited-reads
 
 abbrev Inv-loop : tie.InvT-loop
-Inv-loop lines marks n table₀ origin₀ t₀ table origin t = Seeking (λ k. editedIn lines marks k n) t table origin
+Inv-loop lines marks n table₀ origin₀ t₀ table origin t = Seeking (λ k. editedIn lines marks k (n .number)) t table origin
 
 abbrev μ-loop : tie.MeasureT-loop
 μ-loop lines marks n table₀ origin₀ t₀ table origin t = TABLES - t
 
--- src/lib.rt:184:5
+-- src/lib.rt:189:5
 loop-holds : tie.Need-loop-holds Inv-loop μ-loop
 loop-holds c = search seeks
 
--- src/lib.rt:185:12
+-- src/lib.rt:190:12
 edited-requires : tie.Need-edited-requires Inv-loop μ-loop
 edited-requires c κs = search seeks
 
--- src/lib.rt:189:13
+-- src/lib.rt:194:13
 add-origin : tie.Need-add-origin Inv-loop μ-loop
 add-origin c = search seeks
 
--- src/lib.rt:191:9
+-- src/lib.rt:196:9
 add-t : tie.Need-add-t Inv-loop μ-loop
 add-t c = search seeks
 
--- src/lib.rt:184:5
+-- src/lib.rt:189:5
 loop-less : tie.Need-loop-less Inv-loop μ-loop
 loop-less c = search seeks
 
--- src/lib.rt:184:5
+-- src/lib.rt:189:5
 loop-again : tie.Need-loop-again Inv-loop μ-loop
 loop-again c =
     let s = c .before .before .before .before .args in
-    let test : ℕ → Bool = λ k. editedIn (now (s .lines)) (now (s .marks)) k (s .n) in
+    let test : ℕ → Bool = λ k. editedIn (now (s .lines)) (now (s .marks)) k (s .n .number) in
     let w = c .before .before .before .loop .inv in
     let low = c .before .before .loop-test .taken in
     let asked = c .before .edited .ensures in
@@ -55,7 +55,7 @@ loop-again c =
       | inr u ↦ seek-moved test _ _ _ (seek-on test _ _ _ w _ low asked (u .0 .left)) (u .1) (u .2)
     ]
 
--- src/lib.rt:175:1
+-- src/lib.rt:176:1
 returns : tie.Need-returns Inv-loop μ-loop
 returns c = (search seeks, (search seeks, (search seeks, search seeks)))
 

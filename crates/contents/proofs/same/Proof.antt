@@ -8,23 +8,23 @@ use Rattle.contents.proofs.same.Lts as lts
 use Rattle.contents.proofs.same_long.Reads as same-long-reads
 use Rattle.contents.proofs.same_short.Reads as same-short-reads
 
--- src/lib.rt:83:9
+-- src/lib.rt:84:9
 returns : tie.Need-returns
 returns c = search compares
 
--- src/lib.rt:86:9
+-- src/lib.rt:87:9
 same-short-requires : tie.Need-same-short-requires
 same-short-requires c κs = search needs
 
--- src/lib.rt:86:9
+-- src/lib.rt:87:9
 returns-2 : tie.Need-returns-2
 returns-2 c = search needs
 
--- src/lib.rt:88:5
+-- src/lib.rt:89:5
 same-long-requires : tie.Need-same-long-requires
 same-long-requires c κs = search needs
 
--- src/lib.rt:79:1
+-- src/lib.rt:80:1
 returns-3 : tie.Need-returns-3
 returns-3 c = search needs
 

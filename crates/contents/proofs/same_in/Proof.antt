@@ -8,19 +8,19 @@ use Rattle.contents.proofs.same_in.Lts as lts
 use Rattle.contents.proofs.content.Reads as content-reads
 use Rattle.contents.proofs.same.Reads as same-reads
 
--- src/lib.rt:162:9
+-- src/lib.rt:163:9
 content-requires : tie.Need-content-requires
 content-requires c κs = search needs
 
--- src/lib.rt:163:9
+-- src/lib.rt:164:9
 content-requires-2 : tie.Need-content-requires-2
 content-requires-2 c κs = search needs
 
--- src/lib.rt:164:5
+-- src/lib.rt:165:5
 same-requires : tie.Need-same-requires
 same-requires c κs = search needs
 
--- src/lib.rt:149:1
+-- src/lib.rt:150:1
 returns : tie.Need-returns
 returns c = search asks
 

@@ -13,39 +13,39 @@ Inv-loop a b last i₀ i = Agree a b i
 abbrev μ-loop : tie.MeasureT-loop
 μ-loop a b last i₀ i = last - i
 
--- src/lib.rt:52:16
+-- src/lib.rt:53:16
 sub-last : tie.Need-sub-last Inv-loop μ-loop
 sub-last c = search longs
 
--- src/lib.rt:54:5
+-- src/lib.rt:55:5
 loop-holds : tie.Need-loop-holds Inv-loop μ-loop
 loop-holds c = search longs
 
--- src/lib.rt:55:13
+-- src/lib.rt:56:13
 eight-alike-requires : tie.Need-eight-alike-requires Inv-loop μ-loop
 eight-alike-requires c κs = search longs
 
--- src/lib.rt:56:13
+-- src/lib.rt:57:13
 returns : tie.Need-returns Inv-loop μ-loop
 returns c = search longs
 
--- src/lib.rt:58:9
+-- src/lib.rt:59:9
 add-i : tie.Need-add-i Inv-loop μ-loop
 add-i c = search longs
 
--- src/lib.rt:54:5
+-- src/lib.rt:55:5
 loop-less : tie.Need-loop-less Inv-loop μ-loop
 loop-less c = search longs
 
--- src/lib.rt:54:5
+-- src/lib.rt:55:5
 loop-again : tie.Need-loop-again Inv-loop μ-loop
 loop-again c = search longs
 
--- src/lib.rt:60:5
+-- src/lib.rt:61:5
 eight-alike-requires-2 : tie.Need-eight-alike-requires-2 Inv-loop μ-loop
 eight-alike-requires-2 c κs = search longs
 
--- src/lib.rt:48:1
+-- src/lib.rt:49:1
 returns-2 : tie.Need-returns-2 Inv-loop μ-loop
 returns-2 c = search longs
 

@@ -13,35 +13,35 @@ Inv-loop a b i₀ i = Agree a b i
 abbrev μ-loop : tie.MeasureT-loop
 μ-loop a b i₀ i = length a - i
 
--- src/lib.rt:69:5
+-- src/lib.rt:70:5
 loop-holds : tie.Need-loop-holds Inv-loop μ-loop
 loop-holds c = search shorts
 
--- src/lib.rt:70:12
+-- src/lib.rt:71:12
 shared-slice-read-if1 : tie.Need-shared-slice-read-if1 Inv-loop μ-loop
 shared-slice-read-if1 c = search shorts
 
--- src/lib.rt:70:20
+-- src/lib.rt:71:20
 shared-slice-read-if1-2 : tie.Need-shared-slice-read-if1-2 Inv-loop μ-loop
 shared-slice-read-if1-2 c = search shorts
 
--- src/lib.rt:71:13
+-- src/lib.rt:72:13
 returns : tie.Need-returns Inv-loop μ-loop
 returns c = search shorts
 
--- src/lib.rt:73:9
+-- src/lib.rt:74:9
 add-i : tie.Need-add-i Inv-loop μ-loop
 add-i c = search shorts
 
--- src/lib.rt:69:5
+-- src/lib.rt:70:5
 loop-less : tie.Need-loop-less Inv-loop μ-loop
 loop-less c = search shorts
 
--- src/lib.rt:69:5
+-- src/lib.rt:70:5
 loop-again : tie.Need-loop-again Inv-loop μ-loop
 loop-again c = search shorts
 
--- src/lib.rt:64:1
+-- src/lib.rt:65:1
 returns-2 : tie.Need-returns-2 Inv-loop μ-loop
 returns-2 c = search shorts
 

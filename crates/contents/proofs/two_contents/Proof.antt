@@ -11,44 +11,44 @@ use Rattle.contents.proofs.content_source.Reads as content-source-reads
 use Rattle.contents.proofs.marks.edited.Reads as edited-reads
 use Rattle.contents.proofs.same_in.Reads as same-in-reads
 
--- src/lib.rt:211:8
+-- src/lib.rt:216:8
 edited-requires : tie.Need-edited-requires
 edited-requires c κs = search needs
 
--- src/lib.rt:212:13
+-- src/lib.rt:217:13
 content-source-requires : tie.Need-content-source-requires
 content-source-requires c κs = search needs
 
--- src/lib.rt:215:13
+-- src/lib.rt:220:13
 returns : tie.Need-returns
 returns c =
     let edit = c .before .before .before in
     let from = edit .before in
     let s = from .args in
-    two-first (map now (now (s .texts))) (now (s .lines)) (now (s .facts)) (now (s .marks)) (from .pre .1) (s .n) (s .t)
+    two-first (map now (now (s .texts))) (now (s .lines)) (now (s .facts)) (now (s .marks)) (from .pre .1) (s .n .number) (s .t)
     (from .pre .0 .0 .0) (from .pre .0 .0 .1) _ (edit .edited .ensures) _ (c .before .before .if1 .taken)
     (c .before .content-source .ensures .0) (c .if2 .taken)
 
--- src/lib.rt:217:17
+-- src/lib.rt:222:17
 same-in-requires : tie.Need-same-in-requires
 same-in-requires c κs = search needs
 
--- src/lib.rt:217:9
+-- src/lib.rt:222:9
 returns-2 : tie.Need-returns-2
 returns-2 c =
     let edit = c .before .before .before .before in
     let from = edit .before in
     let s = from .args in
-    two-asked (map now (now (s .texts))) (now (s .lines)) (now (s .facts)) (now (s .marks)) (from .pre .1) (s .n) (s .t)
+    two-asked (map now (now (s .texts))) (now (s .lines)) (now (s .facts)) (now (s .marks)) (from .pre .1) (s .n .number) (s .t)
     (from .pre .0 .0 .0) (from .pre .0 .0 .1) _ (edit .edited .ensures) _ _ (c .before .before .before .if1 .taken)
     (c .before .before .content-source .ensures .0) (c .same-in .ensures)
 
--- src/lib.rt:199:1
+-- src/lib.rt:204:1
 returns-3 : tie.Need-returns-3
 returns-3 c =
     let from = c .before .before in
     let s = from .args in
-    two-none (map now (now (s .texts))) (now (s .lines)) (now (s .facts)) (now (s .marks)) (from .pre .1) (s .n) (s .t)
+    two-none (map now (now (s .texts))) (now (s .lines)) (now (s .facts)) (now (s .marks)) (from .pre .1) (s .n .number) (s .t)
     (from .pre .0 .0 .0) (from .pre .0 .0 .1) _ (c .before .edited .ensures) (c .if1 .left)
 
 pub two-contents-spec : {M : Type 1} → statement M

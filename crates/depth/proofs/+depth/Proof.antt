@@ -23,7 +23,7 @@ depth-at t = and 3 depth-kinds.ps (is 3 depth-kinds.ps μ-depth t) depth.Pre
 abbrev depth-below : ℕ → In 3 depth-kinds.ps
 depth-below t = and 3 depth-kinds.ps (falls 3 depth-kinds.ps _<_ μ-depth t) depth.Pre
 
--- src/lib.rt:38:9
+-- src/lib.rt:37:9
 depth-returns : (t : ℕ) → depth-lts.Need-returns (
   wide-reads.Asked,
   wide-reads.Learnt,
@@ -36,7 +36,7 @@ depth-returns : (t : ℕ) → depth-lts.Need-returns (
 ) (depth-at t) depth.Post
 depth-returns t c = (climb-top _ _ _ (c .if1 .taken), (search needs, c .before .pre .1 .1))
 
--- src/lib.rt:40:22
+-- src/lib.rt:39:22
 depth-mul-wide : (t : ℕ) → depth-lts.Need-mul-wide (
   wide-reads.Asked,
   wide-reads.Learnt,
@@ -49,7 +49,7 @@ depth-mul-wide : (t : ℕ) → depth-lts.Need-mul-wide (
 ) (depth-at t) depth.Post
 depth-mul-wide t c = let h = c .before .pre .1 .0 .room in record { fits = omega (arith, h) }
 
--- src/lib.rt:40:22
+-- src/lib.rt:39:22
 depth-element-copy-out-wide : (t : ℕ) → depth-lts.Need-element-copy-out-wide (
   wide-reads.Asked,
   wide-reads.Learnt,
@@ -62,7 +62,7 @@ depth-element-copy-out-wide : (t : ℕ) → depth-lts.Need-element-copy-out-wide
 ) (depth-at t) depth.Post
 depth-element-copy-out-wide t c = c .before .pre .1 .0 .room
 
--- src/lib.rt:40:9
+-- src/lib.rt:39:9
 depth-wide-requires : (t : ℕ) → depth-lts.Need-wide-requires (
   wide-reads.Asked,
   wide-reads.Learnt,
@@ -75,7 +75,7 @@ depth-wide-requires : (t : ℕ) → depth-lts.Need-wide-requires (
 ) (depth-at t) depth.Post
 depth-wide-requires t c κs = tt
 
--- src/lib.rt:42:9
+-- src/lib.rt:41:9
 depth-returns-2 : (t : ℕ) → depth-lts.Need-returns-2 (
   wide-reads.Asked,
   wide-reads.Learnt,
@@ -91,7 +91,7 @@ depth-returns-2 t c =
     let is = noted-here _ _ _ _ _ (s .pre .1 .1) (c .before .wide .ensures .0) (c .if2 .taken) in
     (is, (omega (arith, is, climb-le _ _ _ (s .pre .1 .0)), s .pre .1 .1))
 
--- src/lib.rt:44:9
+-- src/lib.rt:43:9
 depth-up-line-requires : (t : ℕ) → depth-lts.Need-up-line-requires (
   wide-reads.Asked,
   wide-reads.Learnt,
@@ -104,7 +104,7 @@ depth-up-line-requires : (t : ℕ) → depth-lts.Need-up-line-requires (
 ) (depth-at t) depth.Post
 depth-up-line-requires t c κs = c .before .before .before .before .pre .1 .0
 
--- src/lib.rt:45:13
+-- src/lib.rt:44:13
 depth-depth-requires : (t : ℕ) → depth-lts.Need-depth-requires (
   wide-reads.Asked,
   wide-reads.Learnt,
@@ -122,7 +122,7 @@ depth-depth-requires t c κs =
     let up = climbs-up _ _ _ _ climbs (c .before .before .before .before .before .if1 .left) (c .before .up-line .ensures) in
     (omega (arith, below, s .pre .0), (up, s .pre .1 .1))
 
--- src/lib.rt:45:13
+-- src/lib.rt:44:13
 depth-add-d : (t : ℕ) → depth-lts.Need-add-d (
   wide-reads.Asked,
   wide-reads.Learnt,
@@ -139,7 +139,7 @@ depth-add-d t c =
     let below = up-lt _ _ _ _ (s .pre .1 .0) (u .before .before .before .before .if1 .left) (u .up-line .ensures) in
     record { fits = omega (arith, below, s .pre .1 .0 .room, c .depth .ensures .1 .0) }
 
--- src/lib.rt:46:5
+-- src/lib.rt:45:5
 depth-notes-requires : (t : ℕ) → depth-lts.Need-notes-requires (
   wide-reads.Asked,
   wide-reads.Learnt,
@@ -152,7 +152,7 @@ depth-notes-requires : (t : ℕ) → depth-lts.Need-notes-requires (
 ) (depth-at t) depth.Post
 depth-notes-requires t c κs = tt
 
--- src/lib.rt:47:16
+-- src/lib.rt:46:16
 depth-cast-noted : (t : ℕ) → depth-lts.Need-cast-noted (
   wide-reads.Asked,
   wide-reads.Learnt,
@@ -169,7 +169,7 @@ depth-cast-noted t c =
     let below = up-lt _ _ _ _ (s .pre .1 .0) (u .before .before .before .before .if1 .left) (u .up-line .ensures) in
     record { fits = omega (arith, below, s .pre .1 .0 .room, c .before .before .depth .ensures .1 .0) }
 
--- src/lib.rt:47:5
+-- src/lib.rt:46:5
 depth-mul-noted : (t : ℕ) → depth-lts.Need-mul-noted (
   wide-reads.Asked,
   wide-reads.Learnt,
@@ -184,7 +184,7 @@ depth-mul-noted t c =
     let h = c .before .before .before .before .before .before .before .before .before .pre .1 .0 .room in
     record { fits = omega (arith, h) }
 
--- src/lib.rt:47:5
+-- src/lib.rt:46:5
 depth-element-write-noted : (t : ℕ) → depth-lts.Need-element-write-noted (
   wide-reads.Asked,
   wide-reads.Learnt,
@@ -197,7 +197,7 @@ depth-element-write-noted : (t : ℕ) → depth-lts.Need-element-write-noted (
 ) (depth-at t) depth.Post
 depth-element-write-noted t c = c .before .before .before .before .before .before .before .before .before .pre .1 .0 .room
 
--- src/lib.rt:31:1
+-- src/lib.rt:30:1
 depth-returns-3 : (t : ℕ) → depth-lts.Need-returns-3 (
   wide-reads.Asked,
   wide-reads.Learnt,

@@ -14,31 +14,31 @@ Inv-loop lines facts count noted₀ best₀ l₀ noted best l = Deepest lines fa
 abbrev μ-loop : tie.MeasureT-loop
 μ-loop lines facts count noted₀ best₀ l₀ noted best l = count - l
 
--- src/lib.rt:65:5
+-- src/lib.rt:64:5
 loop-holds : tie.Need-loop-holds Inv-loop μ-loop
 loop-holds c = search climbing
 
--- src/lib.rt:66:9
+-- src/lib.rt:65:9
 add-l : tie.Need-add-l Inv-loop μ-loop
 add-l c = search climbing
 
--- src/lib.rt:67:13
+-- src/lib.rt:66:13
 depth-requires : tie.Need-depth-requires Inv-loop μ-loop
 depth-requires c κs = search climbing
 
--- src/lib.rt:68:9
+-- src/lib.rt:67:9
 larger-requires : tie.Need-larger-requires Inv-loop μ-loop
 larger-requires c κs = search climbing
 
--- src/lib.rt:65:5
+-- src/lib.rt:64:5
 loop-less : tie.Need-loop-less Inv-loop μ-loop
 loop-less c = search climbing
 
--- src/lib.rt:65:5
+-- src/lib.rt:64:5
 loop-again : tie.Need-loop-again Inv-loop μ-loop
 loop-again c = search climbing
 
--- src/lib.rt:58:1
+-- src/lib.rt:57:1
 returns : tie.Need-returns Inv-loop μ-loop
 returns c = search climbing
 

@@ -9,19 +9,19 @@ use Rattle.facts.proofs.has.Reads as has-reads
 use Rattle.facts.proofs.list.Reads as list-reads
 use Rattle.rules.proofs.record.Record.is_record.Reads as is-record-reads
 
--- src/lib.rt:218:8
+-- src/lib.rt:217:8
 is-record-requires : tie.Need-is-record-requires
 is-record-requires c κs = search needs
 
--- src/lib.rt:219:9
+-- src/lib.rt:218:9
 has-requires : tie.Need-has-requires
 has-requires c κs = search needs
 
--- src/lib.rt:219:9
+-- src/lib.rt:218:9
 returns : tie.Need-returns
 returns c = search ways
 
--- src/lib.rt:221:5
+-- src/lib.rt:220:5
 list-requires : tie.Need-list-requires
 list-requires c κs = search needs
 

@@ -8,19 +8,19 @@ use Rattle.facts.proofs.child.Lts as lts
 use Rattle.facts.proofs.field.Reads as field-reads
 use Rattle.facts.proofs.has.Reads as has-reads
 
--- src/lib.rt:168:8
+-- src/lib.rt:185:8
 has-requires : tie.Need-has-requires
 has-requires c κs = search needs
 
--- src/lib.rt:169:16
+-- src/lib.rt:186:16
 field-requires : tie.Need-field-requires
 field-requires c κs = search needs
 
--- src/lib.rt:169:9
+-- src/lib.rt:186:9
 returns : tie.Need-returns
 returns c = search asks
 
--- src/lib.rt:165:1
+-- src/lib.rt:182:1
 returns-2 : tie.Need-returns-2
 returns-2 c = search asks
 

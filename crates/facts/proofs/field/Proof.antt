@@ -7,27 +7,27 @@ use Rattle.facts.proofs.field.Reads as reads
 use Rattle.facts.proofs.field.Lts as lts
 use Rattle.facts.proofs.line_of.Reads as line-of-reads
 
--- src/lib.rt:124:9
+-- src/lib.rt:125:9
 line-of-requires : tie.Need-line-of-requires
 line-of-requires c κs = search needs
 
--- src/lib.rt:125:11
+-- src/lib.rt:126:11
 mul-result : tie.Need-mul-result
 mul-result c = search needs
 
--- src/lib.rt:125:11
+-- src/lib.rt:126:11
 add-result : tie.Need-add-result
 add-result c = search needs
 
--- src/lib.rt:125:5
+-- src/lib.rt:126:5
 mul-result-2 : tie.Need-mul-result-2
 mul-result-2 c = search needs
 
--- src/lib.rt:125:5
+-- src/lib.rt:126:5
 element-copy-out-result : tie.Need-element-copy-out-result
 element-copy-out-result c = search needs
 
--- src/lib.rt:120:1
+-- src/lib.rt:121:1
 returns : tie.Need-returns
 returns c = search asks
 

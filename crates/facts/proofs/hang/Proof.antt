@@ -9,23 +9,23 @@ use Rattle.facts.proofs.put.Reads as put-reads
 use Rattle.facts.proofs.way.Reads as way-reads
 use Rattle.facts.proofs.who.Reads as who-reads
 
--- src/lib.rt:272:9
+-- src/lib.rt:290:9
 who-requires : tie.Need-who-requires
 who-requires c κs = search needs
 
--- src/lib.rt:273:9
+-- src/lib.rt:291:9
 way-requires : tie.Need-way-requires
 way-requires c κs = search needs
 
--- src/lib.rt:274:5
+-- src/lib.rt:292:5
 put-requires : tie.Need-put-requires
 put-requires c κs = search needs
 
--- src/lib.rt:275:5
+-- src/lib.rt:293:5
 put-requires-2 : tie.Need-put-requires-2
 put-requires-2 c κs = search needs
 
--- src/lib.rt:267:1
+-- src/lib.rt:284:1
 returns : tie.Need-returns
 returns c = search stores
 

@@ -7,11 +7,11 @@ use Rattle.facts.proofs.has.Reads as reads
 use Rattle.facts.proofs.has.Lts as lts
 use Rattle.facts.proofs.line_of.Reads as line-of-reads
 
--- src/lib.rt:150:9
+-- src/lib.rt:167:9
 line-of-requires : tie.Need-line-of-requires
 line-of-requires c κs = search needs
 
--- src/lib.rt:147:1
+-- src/lib.rt:164:1
 returns : tie.Need-returns
 returns c = search asks
 

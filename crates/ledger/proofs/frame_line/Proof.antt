@@ -5,12 +5,12 @@ use Rattle.ledger.proofs.frame_line.Statement.{statement}
 use Rattle.ledger.proofs.frame_line.Tie as tie
 
 -- src/lib.rt:74:9
-field-on-requires : tie.Need-field-on-requires
-field-on-requires c κs = search needs
+number-on-requires : tie.Need-number-on-requires
+number-on-requires c κs = search needs
 
 -- src/lib.rt:75:9
-field-on-requires-2 : tie.Need-field-on-requires-2
-field-on-requires-2 c κs = search needs
+parent-on-requires : tie.Need-parent-on-requires
+parent-on-requires c κs = search needs
 
 -- src/lib.rt:76:9
 digit-count-requires : tie.Need-digit-count-requires
@@ -20,7 +20,7 @@ digit-count-requires c κs = search needs
 add-result : tie.Need-add-result
 add-result c = search needs
 
--- src/lib.rt:76:26
+-- src/lib.rt:76:33
 digit-count-requires-2 : tie.Need-digit-count-requires-2
 digit-count-requires-2 c κs = search needs
 
@@ -36,8 +36,8 @@ pub frame-line-spec : {M : Type 1} → statement M
 frame-line-spec =
     tie.close
     (tie.spec
-    field-on-requires
-    field-on-requires-2
+    number-on-requires
+    parent-on-requires
     digit-count-requires
     add-result
     digit-count-requires-2

@@ -5,16 +5,16 @@ use Rattle.ledger.proofs.ledger_line.Statement.{statement}
 use Rattle.ledger.proofs.ledger_line.Tie as tie
 
 -- src/lib.rt:85:9
+number-on-requires : tie.Need-number-on-requires
+number-on-requires c κs = search needs
+
+-- src/lib.rt:86:9
 field-on-requires : tie.Need-field-on-requires
 field-on-requires c κs = search needs
 
--- src/lib.rt:86:9
+-- src/lib.rt:87:9
 field-on-requires-2 : tie.Need-field-on-requires-2
 field-on-requires-2 c κs = search needs
-
--- src/lib.rt:87:9
-field-on-requires-3 : tie.Need-field-on-requires-3
-field-on-requires-3 c κs = search needs
 
 -- src/lib.rt:88:9
 digit-count-requires : tie.Need-digit-count-requires
@@ -24,7 +24,7 @@ digit-count-requires c κs = search needs
 add-result : tie.Need-add-result
 add-result c = search needs
 
--- src/lib.rt:88:26
+-- src/lib.rt:88:33
 digit-count-requires-2 : tie.Need-digit-count-requires-2
 digit-count-requires-2 c κs = search needs
 
@@ -32,7 +32,7 @@ digit-count-requires-2 c κs = search needs
 add-result-2 : tie.Need-add-result-2
 add-result-2 c = search needs
 
--- src/lib.rt:88:62
+-- src/lib.rt:88:69
 digit-count-requires-3 : tie.Need-digit-count-requires-3
 digit-count-requires-3 c κs = search needs
 
@@ -48,9 +48,9 @@ pub ledger-line-spec : {M : Type 1} → statement M
 ledger-line-spec =
     tie.close
     (tie.spec
+    number-on-requires
     field-on-requires
     field-on-requires-2
-    field-on-requires-3
     digit-count-requires
     add-result
     digit-count-requires-2

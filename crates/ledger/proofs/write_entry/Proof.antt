@@ -4,16 +4,16 @@ use Rattle.ledger.proofs.write_entry.Statement.{statement}
 use Rattle.ledger.proofs.write_entry.Tie as tie
 
 -- src/lib.rt:152:9
+number-on-requires : tie.Need-number-on-requires
+number-on-requires c κs = search entries
+
+-- src/lib.rt:153:9
 field-on-requires : tie.Need-field-on-requires
 field-on-requires c κs = search entries
 
--- src/lib.rt:153:9
+-- src/lib.rt:154:9
 field-on-requires-2 : tie.Need-field-on-requires-2
 field-on-requires-2 c κs = search entries
-
--- src/lib.rt:154:9
-field-on-requires-3 : tie.Need-field-on-requires-3
-field-on-requires-3 c κs = search entries
 
 -- src/lib.rt:155:9
 write-field-requires : tie.Need-write-field-requires
@@ -35,9 +35,9 @@ pub write-entry-spec : {M : Type 1} → statement M
 write-entry-spec =
     tie.close
     (tie.spec
+    number-on-requires
     field-on-requires
     field-on-requires-2
-    field-on-requires-3
     write-field-requires
     write-end-requires
     same-length

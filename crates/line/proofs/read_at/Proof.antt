@@ -1,6 +1,8 @@
 -- `read_at` meets its contract. Assumes nothing.
-use Rattle.line.proofs.Judging.{place-told}
+use native.Mathlib.Omega.{arith}
+use denote.Ref.{now}
 use borrow.Author.Needs.{needs}
+use Rattle.line.proofs.Judging.{reached-fits, reaches}
 use Rattle.line.proofs.read_at.Statement.{statement}
 use Rattle.line.proofs.read_at.Tie as tie
 
@@ -19,8 +21,16 @@ part-read-line-end c = search needs
 read-line-requires : tie.Need-read-line-requires
 read-line-requires c κs = search needs
 
+add-t7 : tie.Need-add-t7
+add-t7 c =
+    let told = c .before .before in
+    let begun = told .before .before in
+    let given = begun .before .before .args in
+    reached-fits (now (given .text)) (given .at) (begun .within .result) (told .read-line .result) (begun .within .ensures)
+    (told .read-line .ensures) (omega arith) (omega arith)
+
 returns : tie.Need-returns
-returns c = search place-told
+returns c = search reaches
 
 pub read-at-spec : {M : Type 1} → statement M
 read-at-spec =
@@ -31,4 +41,5 @@ read-at-spec =
     part-read-line-start
     part-read-line-end
     read-line-requires
+    add-t7
     returns)

@@ -33,6 +33,9 @@ faulty-requires-3 c κs = search judges
 returns-3 : tie.Need-returns-3
 returns-3 c = search judges
 
+new-requires-2 : tie.Need-new-requires-2
+new-requires-2 c κs = search judges
+
 bytes-between-requires : tie.Need-bytes-between-requires
 bytes-between-requires c κs = search judges
 
@@ -49,8 +52,8 @@ returns-4 c = search judges
 cut-of : (c : tie.Else1) → Cut (now (c .before .before .before .before .args .rest)) (c .before .before .cut .result)
 cut-of c = search cut-is
 
-add-t7 : tie.Need-add-t7
-add-t7 c = omega (arith, cut-of (c .before .before .before .before .before .before .before .before .before) .high)
+add-t9 : tie.Need-add-t9
+add-t9 c = omega (arith, cut-of (c .before .before .before .before .before .before .before .before .before .before) .high)
 
 returns-5 : tie.Need-returns-5
 returns-5 c = search judges
@@ -68,9 +71,10 @@ read-line-spec =
     returns-2
     faulty-requires-3
     returns-3
+    new-requires-2
     bytes-between-requires
     content-fits-requires
     faulty-requires-4
     returns-4
-    add-t7
+    add-t9
     returns-5)

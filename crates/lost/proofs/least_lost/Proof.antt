@@ -24,19 +24,19 @@ Inv-loop texts lines facts marks counts ls fs least₀ t₀ least t =
 abbrev μ-loop : tie.MeasureT-loop
 μ-loop texts lines facts marks counts ls fs least₀ t₀ least t = TABLES - t
 
--- src/lib.rt:173:5
+-- src/lib.rt:177:5
 loop-holds : tie.Need-loop-holds Inv-loop μ-loop
 loop-holds c = search leasts
 
--- src/lib.rt:174:72
+-- src/lib.rt:178:72
 mul-lost-in : tie.Need-mul-lost-in Inv-loop μ-loop
 mul-lost-in c = search leasts
 
--- src/lib.rt:174:72
+-- src/lib.rt:178:72
 element-copy-out-lost-in : tie.Need-element-copy-out-lost-in Inv-loop μ-loop
 element-copy-out-lost-in c = search leasts
 
--- src/lib.rt:174:13
+-- src/lib.rt:178:13
 lost-in-requires : tie.Need-lost-in-requires Inv-loop μ-loop
 lost-in-requires c κs =
     let from = c .before .before .before in
@@ -47,19 +47,19 @@ lost-in-requires c κs =
     (from .pre .1 .1) in
     (((low, high), from .pre .0 _ high), (note, (from .pre .1 .0 .tables _ high, from .pre .1 .1 .branches _ low high)))
 
--- src/lib.rt:175:9
+-- src/lib.rt:179:9
 smaller-requires : tie.Need-smaller-requires Inv-loop μ-loop
 smaller-requires c κs = search leasts
 
--- src/lib.rt:176:9
+-- src/lib.rt:180:9
 add-t : tie.Need-add-t Inv-loop μ-loop
 add-t c = search leasts
 
--- src/lib.rt:173:5
+-- src/lib.rt:177:5
 loop-less : tie.Need-loop-less Inv-loop μ-loop
 loop-less c = search leasts
 
--- src/lib.rt:173:5
+-- src/lib.rt:177:5
 loop-again : tie.Need-loop-again Inv-loop μ-loop
 loop-again c =
     let loop = c .before .before .before .before in
@@ -71,7 +71,7 @@ loop-again c =
       best-branch branch _ _ _ _ (loop .loop .inv .0) (loop .loop .inv .2) (c .before .lost-in .ensures) (c .smaller .ensures),
     )
 
--- src/lib.rt:155:1
+-- src/lib.rt:159:1
 returns : tie.Need-returns Inv-loop μ-loop
 returns c = search leasts
 

@@ -23,42 +23,42 @@ Inv-loop texts lines facts marks ls fs t count least₀ i₀ least i =
 abbrev μ-loop : tie.MeasureT-loop
 μ-loop texts lines facts marks ls fs t count least₀ i₀ least i = count + 1 - i
 
--- src/lib.rt:144:5
+-- src/lib.rt:148:5
 loop-holds : tie.Need-loop-holds Inv-loop μ-loop
 loop-holds c = search leasts
 
--- src/lib.rt:145:12
+-- src/lib.rt:149:12
 mul-if1 : tie.Need-mul-if1 Inv-loop μ-loop
 mul-if1 c = search leasts
 
--- src/lib.rt:145:12
+-- src/lib.rt:149:12
 index-1-if1 : tie.Need-index-1-if1 Inv-loop μ-loop
 index-1-if1 c = search leasts
 
--- src/lib.rt:145:12
+-- src/lib.rt:149:12
 index-2-if1 : tie.Need-index-2-if1 Inv-loop μ-loop
 index-2-if1 c = search leasts
 
--- src/lib.rt:146:17
+-- src/lib.rt:150:17
 lost-on-requires : tie.Need-lost-on-requires Inv-loop μ-loop
 lost-on-requires c κs =
     let s = c .before .before .before .before in
     let here = c .before .before .loop-test .taken in
     (search leasts, (s .pre .1 .0, (s .pre .1 .1 .0 .low _ here, s .pre .1 .1 .1 .on _ here)))
 
--- src/lib.rt:147:13
+-- src/lib.rt:151:13
 smaller-requires : tie.Need-smaller-requires Inv-loop μ-loop
 smaller-requires c κs = search leasts
 
--- src/lib.rt:149:9
+-- src/lib.rt:153:9
 add-i : tie.Need-add-i Inv-loop μ-loop
 add-i c = search leasts
 
--- src/lib.rt:144:5
+-- src/lib.rt:148:5
 loop-less : tie.Need-loop-less Inv-loop μ-loop
 loop-less c = search leasts
 
--- src/lib.rt:144:5
+-- src/lib.rt:148:5
 loop-again : tie.Need-loop-again Inv-loop μ-loop
 loop-again c =
     let test = c .before .before in
@@ -77,7 +77,7 @@ loop-again c =
       ],
     )
 
--- src/lib.rt:124:1
+-- src/lib.rt:128:1
 returns : tie.Need-returns Inv-loop μ-loop
 returns c = search leasts
 

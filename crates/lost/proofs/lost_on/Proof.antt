@@ -16,27 +16,27 @@ use Rattle.edits.proofs.smaller.Reads as smaller-reads
 use Rattle.lost.proofs.lost_content.Reads as lost-content-reads
 use Rattle.lost.proofs.lost_position.Reads as lost-position-reads
 
--- src/lib.rt:114:9
+-- src/lib.rt:118:9
 number-in-requires : tie.Need-number-in-requires
 number-in-requires c κs = search needs
 
--- src/lib.rt:115:9
+-- src/lib.rt:119:9
 lost-content-requires : tie.Need-lost-content-requires
 lost-content-requires c κs = search needs
 
--- src/lib.rt:116:8
+-- src/lib.rt:120:8
 mul-if1 : tie.Need-mul-if1
 mul-if1 c = search needs
 
--- src/lib.rt:116:8
+-- src/lib.rt:120:8
 index-1-if1 : tie.Need-index-1-if1
 index-1-if1 c = search needs
 
--- src/lib.rt:116:8
+-- src/lib.rt:120:8
 index-2-if1 : tie.Need-index-2-if1
 index-2-if1 c = search needs
 
--- src/lib.rt:117:9
+-- src/lib.rt:121:9
 returns : tie.Need-returns
 returns c =
     let from = c .before .before .before .before in
@@ -45,15 +45,15 @@ returns c =
     (from .pre .1 .1 .0) (from .pre .1 .1 .1) _ _ (c .if1 .taken) (c .before .before .before .number-in .ensures)
     (c .before .before .lost-content .ensures)
 
--- src/lib.rt:119:9
+-- src/lib.rt:123:9
 lost-position-requires : tie.Need-lost-position-requires
 lost-position-requires c κs = search needs
 
--- src/lib.rt:120:5
+-- src/lib.rt:124:5
 smaller-requires : tie.Need-smaller-requires
 smaller-requires c κs = search needs
 
--- src/lib.rt:96:1
+-- src/lib.rt:100:1
 returns-2 : tie.Need-returns-2
 returns-2 c =
     let content = c .before .before .before .before in

@@ -3,25 +3,21 @@ use Rattle.merged.proofs.Turns.{turns}
 use Rattle.merged.proofs.follows.Statement.{statement}
 use Rattle.merged.proofs.follows.Tie as tie
 
--- src/lib.rt:41:8
-new-requires : tie.Need-new-requires
-new-requires c κs = search turns
-
--- src/lib.rt:41:8
+-- src/lib.rt:40:8
 is-record-requires : tie.Need-is-record-requires
 is-record-requires c κs = search turns
 
--- src/lib.rt:42:24
+-- src/lib.rt:41:24
 sub-result : tie.Need-sub-result
 sub-result c = search turns
 
--- src/lib.rt:42:9
+-- src/lib.rt:41:9
 returns : tie.Need-returns
 returns c = search turns
 
--- src/lib.rt:38:1
+-- src/lib.rt:37:1
 returns-2 : tie.Need-returns-2
 returns-2 c = search turns
 
 pub follows-spec : {M : Type 1} → statement M
-follows-spec = tie.close (tie.spec new-requires is-record-requires sub-result returns returns-2)
+follows-spec = tie.close (tie.spec is-record-requires sub-result returns returns-2)

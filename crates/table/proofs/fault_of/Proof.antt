@@ -16,19 +16,19 @@ returns c = search judges
 returns-2 : tie.Need-returns-2
 returns-2 c = search judges
 
--- src/lib.rt:66:8
+-- src/lib.rt:67:8
 has-requires : tie.Need-has-requires
 has-requires c κs = search needs
 
--- src/lib.rt:67:9
+-- src/lib.rt:68:9
 returns-3 : tie.Need-returns-3
 returns-3 c = search judges
 
--- src/lib.rt:69:8
+-- src/lib.rt:71:8
 list-requires : tie.Need-list-requires
 list-requires c κs = search needs
 
--- src/lib.rt:70:9
+-- src/lib.rt:72:9
 returns-4 : tie.Need-returns-4
 returns-4 c = search judges
 

@@ -18,55 +18,55 @@ Inv-loop texts lines₀ facts₀ counts₀ t₀ lines facts counts t = Turn (map
 abbrev μ-loop : tie.MeasureT-loop
 μ-loop texts lines₀ facts₀ counts₀ t₀ lines facts counts t = TABLES - t
 
--- src/lib.rt:156:5
+-- src/lib.rt:161:5
 one-each-requires : tie.Need-one-each-requires Inv-loop μ-loop
 one-each-requires c κs = search turns
 
--- src/lib.rt:158:5
+-- src/lib.rt:163:5
 loop-holds : tie.Need-loop-holds Inv-loop μ-loop
 loop-holds c = search turns
 
--- src/lib.rt:159:13
+-- src/lib.rt:164:13
 text-of-requires : tie.Need-text-of-requires Inv-loop μ-loop
 text-of-requires c κs = search turns
 
--- src/lib.rt:160:13
+-- src/lib.rt:165:13
 read-into-requires : tie.Need-read-into-requires Inv-loop μ-loop
 read-into-requires c κs = search turns
 
--- src/lib.rt:165:25
+-- src/lib.rt:170:25
 add-t14 : tie.Need-add-t14 Inv-loop μ-loop
 add-t14 c = search turns
 
--- src/lib.rt:165:24
+-- src/lib.rt:170:24
 cast-t15 : tie.Need-cast-t15 Inv-loop μ-loop
 cast-t15 c = search turns
 
--- src/lib.rt:163:13
+-- src/lib.rt:168:13
 returns : tie.Need-returns Inv-loop μ-loop
 returns c = search turns
 
--- src/lib.rt:169:9
+-- src/lib.rt:174:9
 mul-counts : tie.Need-mul-counts Inv-loop μ-loop
 mul-counts c = search turns
 
--- src/lib.rt:169:9
+-- src/lib.rt:174:9
 element-write-counts : tie.Need-element-write-counts Inv-loop μ-loop
 element-write-counts c = search turns
 
--- src/lib.rt:170:9
+-- src/lib.rt:175:9
 add-t : tie.Need-add-t Inv-loop μ-loop
 add-t c = search turns
 
--- src/lib.rt:158:5
+-- src/lib.rt:163:5
 loop-less : tie.Need-loop-less Inv-loop μ-loop
 loop-less c = search turns
 
--- src/lib.rt:158:5
+-- src/lib.rt:163:5
 loop-again : tie.Need-loop-again Inv-loop μ-loop
 loop-again c = search turns
 
--- src/lib.rt:147:1
+-- src/lib.rt:152:1
 returns-2 : tie.Need-returns-2 Inv-loop μ-loop
 returns-2 c = search turns
 

@@ -8,31 +8,31 @@ use Rattle.table.proofs.read_into.Lts as lts
 use Rattle.table.proofs.read_table.Reads as read-table-reads
 use Rattle.table.proofs.side_by_side.Reads as side-by-side-reads
 
--- src/lib.rt:135:5
+-- src/lib.rt:140:5
 side-by-side-requires : tie.Need-side-by-side-requires
 side-by-side-requires c κs = search needs
 
--- src/lib.rt:136:22
+-- src/lib.rt:141:22
 mul-read-table : tie.Need-mul-read-table
 mul-read-table c = search needs
 
--- src/lib.rt:136:22
+-- src/lib.rt:141:22
 index-1-read-table : tie.Need-index-1-read-table
 index-1-read-table c = search needs
 
--- src/lib.rt:136:37
+-- src/lib.rt:141:37
 mul-read-table-2 : tie.Need-mul-read-table-2
 mul-read-table-2 c = search needs
 
--- src/lib.rt:136:37
+-- src/lib.rt:141:37
 index-1-read-table-2 : tie.Need-index-1-read-table-2
 index-1-read-table-2 c = search needs
 
--- src/lib.rt:136:5
+-- src/lib.rt:141:5
 read-table-requires : tie.Need-read-table-requires
 read-table-requires c κs = search needs
 
--- src/lib.rt:126:1
+-- src/lib.rt:131:1
 returns : tie.Need-returns
 returns c =
     let shape = c .before .before .before in

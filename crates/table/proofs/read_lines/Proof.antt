@@ -19,70 +19,68 @@ Inv-loop text lines₀ facts₀ at₀ count₀ lines facts at count = Reading te
 abbrev μ-loop : tie.MeasureT-loop
 μ-loop text lines₀ facts₀ at₀ count₀ lines facts at count = length text - at
 
--- src/lib.rt:82:5
+-- src/lib.rt:84:5
 loop-holds : tie.Need-loop-holds Inv-loop μ-loop
 loop-holds c = search steps
 
--- src/lib.rt:83:13
+-- src/lib.rt:85:13
 line-at-requires : tie.Need-line-at-requires Inv-loop μ-loop
 line-at-requires c κs = search steps
 
--- src/lib.rt:84:13
+-- src/lib.rt:87:13
 fault-of-requires : tie.Need-fault-of-requires Inv-loop μ-loop
 fault-of-requires c κs = search steps
 
--- src/lib.rt:86:35
+-- src/lib.rt:89:35
 add-refused : tie.Need-add-refused Inv-loop μ-loop
 add-refused c = search steps
 
--- src/lib.rt:86:34
+-- src/lib.rt:89:34
 cast-refused : tie.Need-cast-refused Inv-loop μ-loop
 cast-refused c = search steps
 
--- src/lib.rt:86:13
+-- src/lib.rt:89:13
 refused-requires : tie.Need-refused-requires Inv-loop μ-loop
 refused-requires c κs = search steps
 
--- src/lib.rt:86:13
+-- src/lib.rt:89:13
 returns : tie.Need-returns Inv-loop μ-loop
 returns c = search steps
 
--- src/lib.rt:88:22
+-- src/lib.rt:93:22
 add-start : tie.Need-add-start Inv-loop μ-loop
 add-start c = search steps
 
--- src/lib.rt:88:21
+-- src/lib.rt:93:21
 cast-start : tie.Need-cast-start Inv-loop μ-loop
 cast-start c = search steps
 
--- src/lib.rt:89:22
+-- src/lib.rt:94:22
 cast-length : tie.Need-cast-length Inv-loop μ-loop
 cast-length c =
-    let told = c .before .before .before .before .before in
+    let fine = c .before .before .before .before in
+    let judged = fine .before in
+    let told = judged .before .before .before in
     length-small _ _ _ _ _ _ (told .line-at .result) (told .before .before .loop .inv) (told .before .loop-test .taken)
-    (told .line-at .ensures) (c .before .before .before .fault-of .ensures) (c .before .before .if1 .left)
+    (told .line-at .ensures) (judged .fault-of .ensures) (fine .if1 .left)
 
--- src/lib.rt:90:9
+-- src/lib.rt:95:9
 add-count : tie.Need-add-count Inv-loop μ-loop
 add-count c = search steps
 
--- src/lib.rt:91:9
+-- src/lib.rt:96:9
 add-line-requires : tie.Need-add-line-requires Inv-loop μ-loop
 add-line-requires c κs = (search steps, search steps)
 
--- src/lib.rt:92:9
-add-at : tie.Need-add-at Inv-loop μ-loop
-add-at c = search steps
-
--- src/lib.rt:82:5
+-- src/lib.rt:84:5
 loop-less : tie.Need-loop-less Inv-loop μ-loop
 loop-less c = search steps
 
--- src/lib.rt:82:5
+-- src/lib.rt:84:5
 loop-again : tie.Need-loop-again Inv-loop μ-loop
 loop-again c = search steps
 
--- src/lib.rt:76:1
+-- src/lib.rt:78:1
 returns-2 : tie.Need-returns-2 Inv-loop μ-loop
 returns-2 c = search steps
 
@@ -104,7 +102,6 @@ read-lines-spec =
     cast-length
     add-count
     add-line-requires
-    add-at
     loop-less
     loop-again
     returns-2)

@@ -11,47 +11,47 @@ use Rattle.table.proofs.refused.Reads as refused-reads
 use Rattle.text.proofs.ended.Reads as ended-reads
 use Rattle.text.proofs.ends.Reads as ends-reads
 
--- src/lib.rt:107:9
+-- src/lib.rt:112:9
 refused-requires : tie.Need-refused-requires
 refused-requires c κs = search needs
 
--- src/lib.rt:107:9
+-- src/lib.rt:112:9
 returns : tie.Need-returns
 returns c = search steps
 
--- src/lib.rt:109:9
+-- src/lib.rt:114:9
 ended-requires : tie.Need-ended-requires
 ended-requires c κs = search needs
 
--- src/lib.rt:110:20
+-- src/lib.rt:115:20
 ends-requires : tie.Need-ends-requires
 ends-requires c κs = search needs
 
--- src/lib.rt:110:20
+-- src/lib.rt:115:20
 add-line : tie.Need-add-line
 add-line c = search steps
 
--- src/lib.rt:111:33
+-- src/lib.rt:116:33
 cast-refused : tie.Need-cast-refused
 cast-refused c = search steps
 
--- src/lib.rt:111:9
+-- src/lib.rt:116:9
 refused-requires-2 : tie.Need-refused-requires-2
 refused-requires-2 c κs = search needs
 
--- src/lib.rt:111:9
+-- src/lib.rt:116:9
 returns-2 : tie.Need-returns-2
 returns-2 c = search steps
 
--- src/lib.rt:113:5
+-- src/lib.rt:118:5
 open-requires : tie.Need-open-requires
 open-requires c κs = search needs
 
--- src/lib.rt:114:5
+-- src/lib.rt:119:5
 read-lines-requires : tie.Need-read-lines-requires
 read-lines-requires c κs = search steps
 
--- src/lib.rt:102:1
+-- src/lib.rt:107:1
 returns-3 : tie.Need-returns-3
 returns-3 c = search needs
 

@@ -5,24 +5,30 @@ use Rattle.write.proofs.write_table.Statement.{statement}
 use Rattle.write.proofs.write_table.Tie as tie
 use Rattle.write.proofs.write_table.Reads as reads
 use Rattle.write.proofs.write_table.Lts as lts
-use Rattle.facts.proofs.field.Reads as field-reads
+use Rattle.facts.proofs.record_in.Reads as record-in-reads
+use Rattle.rules.proofs.record.Record.top.Reads as top-reads
 use Rattle.write.proofs.write_list.Reads as write-list-reads
 
 -- src/lib.rt:128:9
-field-requires : tie.Need-field-requires
-field-requires c κs = search needs
+top-requires : tie.Need-top-requires
+top-requires c κs = search needs
 
--- src/lib.rt:129:5
+-- src/lib.rt:129:9
+record-in-requires : tie.Need-record-in-requires
+record-in-requires c κs = search needs
+
+-- src/lib.rt:130:5
 write-list-requires : tie.Need-write-list-requires
 write-list-requires c κs = search tables
 
--- src/lib.rt:115:1
+-- src/lib.rt:116:1
 same-length : tie.Need-same-length
 same-length c = search needs
 
--- src/lib.rt:115:1
+-- src/lib.rt:116:1
 returns : tie.Need-returns
 returns c = search tables
 
 pub write-table-spec : {M : Type 1} → statement M
-write-table-spec = tie.close (tie.spec field-requires write-list-requires same-length returns)
+write-table-spec =
+    tie.close (tie.spec top-requires record-in-requires write-list-requires same-length returns)

@@ -13,39 +13,39 @@ use Rattle.edits.proofs.alike_lines.Reads as alike-lines-reads
 use Rattle.edits.proofs.number_in.Reads as number-in-reads
 use Rattle.facts.proofs.line_of.Reads as line-of-reads
 
--- src/marks.rt:63:9
+-- src/marks.rt:64:9
 number-in-requires : tie.Need-number-in-requires
 number-in-requires c κs = search needs
 
--- src/marks.rt:64:21
+-- src/marks.rt:65:21
 index-1-line-of : tie.Need-index-1-line-of
 index-1-line-of c = search needs
 
--- src/marks.rt:64:9
+-- src/marks.rt:65:9
 line-of-requires : tie.Need-line-of-requires
 line-of-requires c κs = search needs
 
--- src/marks.rt:65:29
+-- src/marks.rt:66:29
 mul-alike-lines : tie.Need-mul-alike-lines
 mul-alike-lines c = search needs
 
--- src/marks.rt:65:29
+-- src/marks.rt:66:29
 index-1-alike-lines : tie.Need-index-1-alike-lines
 index-1-alike-lines c = search needs
 
--- src/marks.rt:65:40
+-- src/marks.rt:66:40
 index-1-alike-lines-2 : tie.Need-index-1-alike-lines-2
 index-1-alike-lines-2 c = search needs
 
--- src/marks.rt:65:9
+-- src/marks.rt:66:9
 alike-lines-requires : tie.Need-alike-lines-requires
 alike-lines-requires c κs = search needs
 
--- src/marks.rt:67:9
+-- src/marks.rt:68:9
 mark-requires : tie.Need-mark-requires
 mark-requires c κs = search needs
 
--- src/marks.rt:67:9
+-- src/marks.rt:68:9
 returns : tie.Need-returns
 returns c =
     let alike = c .before .before in
@@ -56,11 +56,11 @@ returns c =
     mark-top (map now (now (s .texts))) (now (s .lines)) (now (s .facts)) (s .t) (s .i) (from .pre .1) _ _ _
     (number .number-in .ensures) (line .line-of .ensures .0) _ (c .before .if1 .taken) (alike .alike-lines .ensures) (c .mark .ensures)
 
--- src/marks.rt:70:9
+-- src/marks.rt:71:9
 mark-requires-2 : tie.Need-mark-requires-2
 mark-requires-2 c κs = search needs
 
--- src/marks.rt:70:9
+-- src/marks.rt:71:9
 returns-2 : tie.Need-returns-2
 returns-2 c =
     let alike = c .before .before .before in
@@ -71,15 +71,15 @@ returns-2 c =
     mark-new (map now (now (s .texts))) (now (s .lines)) (now (s .facts)) (s .t) (s .i) (from .pre .1) _ _ _
     (number .number-in .ensures) (line .line-of .ensures .0) (c .before .before .if1 .left) (c .before .if2 .taken) (c .mark2 .ensures)
 
--- src/marks.rt:72:9
+-- src/marks.rt:73:9
 same-as-old-requires : tie.Need-same-as-old-requires
 same-as-old-requires c κs = search needs
 
--- src/marks.rt:73:5
+-- src/marks.rt:74:5
 mark-requires-3 : tie.Need-mark-requires-3
 mark-requires-3 c κs = search needs
 
--- src/marks.rt:52:1
+-- src/marks.rt:53:1
 returns-3 : tie.Need-returns-3
 returns-3 c =
     let alike = c .before .before .before .before in

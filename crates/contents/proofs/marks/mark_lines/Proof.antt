@@ -16,36 +16,36 @@ Inv-loop texts lines facts t count row₀ i₀ row i = Filling (map now texts) l
 abbrev μ-loop : tie.MeasureT-loop
 μ-loop texts lines facts t count row₀ i₀ row i = count + 1 - i
 
--- src/marks.rt:98:5
+-- src/marks.rt:99:5
 one-each-requires : tie.Need-one-each-requires Inv-loop μ-loop
 one-each-requires c κs = search fills
 
--- src/marks.rt:100:5
+-- src/marks.rt:101:5
 loop-holds : tie.Need-loop-holds Inv-loop μ-loop
 loop-holds c = search fills
 
--- src/marks.rt:101:18
+-- src/marks.rt:102:18
 mark-line-requires : tie.Need-mark-line-requires Inv-loop μ-loop
 mark-line-requires c κs =
     (search fills, c .before .before .before .before .pre .1 .on-line _ (c .loop-test .taken))
 
--- src/marks.rt:101:9
+-- src/marks.rt:102:9
 element-write-row : tie.Need-element-write-row Inv-loop μ-loop
 element-write-row c = search fills
 
--- src/marks.rt:102:9
+-- src/marks.rt:103:9
 add-i : tie.Need-add-i Inv-loop μ-loop
 add-i c = search fills
 
--- src/marks.rt:100:5
+-- src/marks.rt:101:5
 loop-less : tie.Need-loop-less Inv-loop μ-loop
 loop-less c = search fills
 
--- src/marks.rt:100:5
+-- src/marks.rt:101:5
 loop-again : tie.Need-loop-again Inv-loop μ-loop
 loop-again c = search fills
 
--- src/marks.rt:85:1
+-- src/marks.rt:86:1
 returns : tie.Need-returns Inv-loop μ-loop
 returns c = search fills
 

@@ -13,52 +13,52 @@ use Rattle.edits.proofs.forerunner_in.Reads as forerunner-in-reads
 use Rattle.edits.proofs.fresh.Reads as fresh-reads
 
 abbrev Inv-loop : tie.InvT-loop
-Inv-loop lines facts r s o t₀ t = Left (λ k. fresh o (ask lines facts k .before r s)) t
+Inv-loop lines facts r s o t₀ t = Left (λ k. fresh (o .number) (ask lines facts k .before (r .number) (s .number))) t
 
 abbrev μ-loop : tie.MeasureT-loop
 μ-loop lines facts r s o t₀ t = TABLES - t
 
--- src/clash.rt:56:5
+-- src/clash.rt:58:5
 loop-holds : tie.Need-loop-holds Inv-loop μ-loop
 loop-holds c = search seeks
 
--- src/clash.rt:57:13
+-- src/clash.rt:59:13
 forerunner-in-requires : tie.Need-forerunner-in-requires Inv-loop μ-loop
 forerunner-in-requires c κs = search seeks
 
--- src/clash.rt:58:12
+-- src/clash.rt:60:12
 fresh-requires : tie.Need-fresh-requires Inv-loop μ-loop
 fresh-requires c κs = search seeks
 
--- src/clash.rt:59:13
+-- src/clash.rt:61:13
 returns : tie.Need-returns Inv-loop μ-loop
 returns c =
     let loop = c .before .before .before .before in
     let s = loop .before .args in
-    let v : ℕ → ℕ = λ k. ask (now (s .lines)) (now (s .facts)) k .before (s .r) (s .s) in (
-      fresh-here v (s .o) _ _ _ (loop .loop .inv) (c .before .before .before .loop-test .taken) (c .before .before .forerunner-in .ensures)
-          (c .before .fresh .ensures) (c .if1 .taken),
+    let v : ℕ → ℕ = λ k. ask (now (s .lines)) (now (s .facts)) k .before (s .r .number) (s .s .number) in (
+      fresh-here v (s .o .number) _ _ _ (loop .loop .inv) (c .before .before .before .loop-test .taken)
+          (c .before .before .forerunner-in .ensures) (c .before .fresh .ensures) (c .if1 .taken),
       c .before .before .before .loop-test .taken,
     )
 
--- src/clash.rt:61:9
+-- src/clash.rt:63:9
 add-t : tie.Need-add-t Inv-loop μ-loop
 add-t c = search seeks
 
--- src/clash.rt:56:5
+-- src/clash.rt:58:5
 loop-less : tie.Need-loop-less Inv-loop μ-loop
 loop-less c = search seeks
 
--- src/clash.rt:56:5
+-- src/clash.rt:58:5
 loop-again : tie.Need-loop-again Inv-loop μ-loop
 loop-again c =
     let loop = c .before .before .before .before in
     let s = loop .before .args in
-    let v : ℕ → ℕ = λ k. ask (now (s .lines)) (now (s .facts)) k .before (s .r) (s .s) in
-    fresh-on v (s .o) _ _ _ (loop .loop .inv) (c .before .before .before .loop-test .taken) (c .before .before .forerunner-in .ensures)
-    (c .before .fresh .ensures) (c .if1 .left)
+    let v : ℕ → ℕ = λ k. ask (now (s .lines)) (now (s .facts)) k .before (s .r .number) (s .s .number) in
+    fresh-on v (s .o .number) _ _ _ (loop .loop .inv) (c .before .before .before .loop-test .taken)
+    (c .before .before .forerunner-in .ensures) (c .before .fresh .ensures) (c .if1 .left)
 
--- src/clash.rt:45:1
+-- src/clash.rt:46:1
 returns-2 : tie.Need-returns-2 Inv-loop μ-loop
 returns-2 c = search seeks
 

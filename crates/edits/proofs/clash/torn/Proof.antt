@@ -8,19 +8,19 @@ use Rattle.edits.proofs.clash.torn.Lts as lts
 use Rattle.edits.proofs.clash.two_followers.Reads as two-followers-reads
 use Rattle.edits.proofs.clash.two_forerunners.Reads as two-forerunners-reads
 
--- src/clash.rt:152:8
+-- src/clash.rt:154:8
 two-followers-requires : tie.Need-two-followers-requires
 two-followers-requires c κs = search needs
 
--- src/clash.rt:153:9
+-- src/clash.rt:155:9
 returns : tie.Need-returns
 returns c = search ways
 
--- src/clash.rt:155:5
+-- src/clash.rt:157:5
 two-forerunners-requires : tie.Need-two-forerunners-requires
 two-forerunners-requires c κs = search needs
 
--- src/clash.rt:141:1
+-- src/clash.rt:143:1
 returns-2 : tie.Need-returns-2
 returns-2 c = search ways
 

@@ -11,36 +11,37 @@ use Rattle.edits.proofs.clash.before_source.Reads as before-source-read
 use Rattle.edits.proofs.forerunner_in.Reads as forerunner-in-reads
 use Rattle.edits.proofs.fresh.Reads as fresh-reads
 
--- src/clash.rt:112:9
+-- src/clash.rt:114:9
 forerunner-in-requires : tie.Need-forerunner-in-requires
 forerunner-in-requires c κs = search needs
 
--- src/clash.rt:113:9
+-- src/clash.rt:115:9
 forerunner-in-requires-2 : tie.Need-forerunner-in-requires-2
 forerunner-in-requires-2 c κs = search needs
 
--- src/clash.rt:114:8
+-- src/clash.rt:116:8
 fresh-requires : tie.Need-fresh-requires
 fresh-requires c κs = search needs
 
--- src/clash.rt:115:13
+-- src/clash.rt:117:13
 before-source-requires : tie.Need-before-source-requires
 before-source-requires c κs = search needs
 
--- src/clash.rt:116:13
+-- src/clash.rt:118:13
 forerunner-in-requires-3 : tie.Need-forerunner-in-requires-3
 forerunner-in-requires-3 c κs = search needs
 
--- src/clash.rt:117:9
+-- src/clash.rt:119:9
 returns : tie.Need-returns
 returns c =
-    let asked = c .before .before .before in
+    let seen = c .before .before in
+    let asked = seen .before .before .before in
     let s = asked .before .before .before .args in
-    first-differs (λ k. ask (now (s .lines)) (now (s .facts)) k .before (s .r) (s .s)) _ _ _ _ _ _
+    first-differs (λ k. ask (now (s .lines)) (now (s .facts)) k .before (s .r .number) (s .s .number)) _ _ _ _ _ _
     (asked .before .before .forerunner-in .ensures) (asked .before .forerunner-in2 .ensures) (asked .fresh .ensures)
-    (c .before .before .if1 .taken) (c .before .before-source .ensures .0) (c .forerunner-in3 .ensures)
+    (seen .before .before .if1 .taken) (seen .before .before-source .ensures .0) (seen .forerunner-in3 .ensures)
 
--- src/clash.rt:102:1
+-- src/clash.rt:104:1
 returns-2 : tie.Need-returns-2
 returns-2 c =
     let asked = c .before in
