@@ -22,9 +22,8 @@ use Rattle.rules.specs.Promises.{Tidies}
 use Rattle.rules.specs.ReadableText.{IsTable}
 use Rattle.rules.specs.Refusal.{Refused}
 use Rattle.rules.specs.declared.answers.Tidied.{Tidied}
-use Rattle.readback.proofs.Refusing.{refused-range}
 use Rattle.readback.proofs.ReadableText.{readable-exactly}
-use Rattle.readback.proofs.RefusedText.{refused-exactly}
+use Rattle.readback.proofs.RefusedText.{refused-exactly, refused-range}
 use Rattle.readback.proofs.TreesBack.{same-tree}
 use Rattle.readback.proofs.Tidying.{tidied-length, tidied-within, tidied-again}
 
