@@ -22,9 +22,8 @@ use Rattle.rules.specs.Promises.{Tidies}
 use Rattle.rules.specs.ReadableText.{IsTable}
 use Rattle.rules.specs.UnreadableText.{Refused}
 use Rattle.rules.specs.declared.answers.Tidied.{Tidied}
-use Rattle.readback.proofs.Refusing.{refused-range}
 use Rattle.readback.proofs.ReadableText.{readable-exactly}
-use Rattle.readback.proofs.UnreadableText.{unreadable-exactly}
+use Rattle.readback.proofs.UnreadableText.{unreadable-exactly, refused-range}
 use Rattle.readback.proofs.TreesBack.{same-tree}
 use Rattle.readback.proofs.Tidying.{tidied-length, tidied-within, tidied-again}
 

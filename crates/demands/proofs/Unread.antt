@@ -10,7 +10,7 @@ use Rattle.rules.specs.Line.{Row}
 use Rattle.rules.specs.Table.{Verdict, readable, unreadable, verdict}
 use Rattle.rules.specs.Calls.{Outcome, notRead, onceRead, onceAllRead, mergeTables, mergeTexts}
 use Rattle.rules.specs.Demands.{Tables}
-use Rattle.readback.proofs.Refusing.{refused-range}
+use Rattle.readback.proofs.UnreadableText.{refused-range}
 
 -- a table was refused, the last being number `most`, and the merge ended with it
 pub record Unread (most : ℕ) (end : Outcome) : Type 0 where

@@ -205,15 +205,15 @@ refused-words text code line e = go (ltb BYTES (length text)) (ended text) refl 
 
 -- ---- from the words to the verdict
 
-fault-some : {before : List Row} {l : List ℕ} {code : ℕ} → Fault before l code → 3 ≤ code
-fault-some (line513 h) = omega arith
-fault-some (badByte x m f g) = omega arith
-fault-some (fewTabs h) = omega arith
-fault-some (badNumber n p c w f) = omega arith
-fault-some (badParent n p c w f) = omega arith
-fault-some (badContent n p c w f) = omega arith
-fault-some (numberTwice n p c w k h e m) = omega arith
-fault-some (parentMissing n p c w k h e f g) = omega arith
+fault-range : {before : List Row} {l : List ℕ} {code : ℕ} → Fault before l code → (3 ≤ code) × (code ≤ 10)
+fault-range (line513 h) = (omega arith, omega arith)
+fault-range (badByte x m f g) = (omega arith, omega arith)
+fault-range (fewTabs h) = (omega arith, omega arith)
+fault-range (badNumber n p c w f) = (omega arith, omega arith)
+fault-range (badParent n p c w f) = (omega arith, omega arith)
+fault-range (badContent n p c w f) = (omega arith, omega arith)
+fault-range (numberTwice n p c w k h e m) = (omega arith, omega arith)
+fault-range (parentMissing n p c w k h e f g) = (omega arith, omega arith)
 
 -- the code is the line's fault
 code-is : (before : List Row) (l : List ℕ) (code : ℕ) → Fault before l code → ((other : ℕ) → other < code → Fault before l other → ⊥)
@@ -262,7 +262,7 @@ module _ (text : List ℕ) (code line : ℕ) (w : FirstFault text code line) whe
       same = code-is (w .before) (w .faulty) code (w .fault) (w .lowest)
 
       some : fault (w .before) (w .faulty) ≡ accepted → ⊥
-      some z = omega (arith, same, fault-some (w .fault))
+      some z = omega (arith, same, fault-range (w .fault) .0)
 
 words-refused : (text : List ℕ) {code line : ℕ} → Refused text code line → verdict text ≡ unreadable code line
 words-refused text (tooLong h) = rw (lt-ltb BYTES (length text) h)
@@ -274,3 +274,12 @@ words-refused text (onLine code line h e w) =
 
 pub unreadable-exactly : (text : List ℕ) (code line : ℕ) → (verdict text ≡ unreadable code line) ↔ Refused text code line
 unreadable-exactly text code line = (refused-words text code line, words-refused text)
+
+-- so the code of a refused text is one of 1 to 10
+pub refused-range : (text : List ℕ) (code line : ℕ) → verdict text ≡ unreadable code line → (1 ≤ code) × (code ≤ 10)
+refused-range text code line e = go (refused-words text code line e)
+  where
+    go : {code line : ℕ} → Refused text code line → (1 ≤ code) × (code ≤ 10)
+    go (tooLong h) = (omega arith, omega arith)
+    go (unended h x w f) = (omega arith, omega arith)
+    go (onLine code line h e w) = let r = fault-range (w .fault) in (omega (arith, r .0), r .1)
