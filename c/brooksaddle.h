@@ -10,8 +10,9 @@
  *   says, which may be written. No pointer is NULL, not even one to no bytes. Bytes need no alignment.
  * - No buffer overlaps a text or the other buffer. Texts are only read, so they may overlap, or be one.
  * - Nobody else writes to them during the call. The library itself only reads the texts.
- * - The stack has room. A call on one table takes some 170 KB of it, tidy up to 255 KB (for 512 records, each below the last), and
- *   merge 660 to 750 KB. A call that runs out of stack is stopped by the system, so a thread with a small one is no place for it.
+ * - The stack has room. On x86-64 a call on one table takes 167 KB of it, tidy up to 304 KB (for 512 records, each below the last), and
+ *   merge 660 to 799 KB; on Arm 170 KB, 255 KB and 660 to 750 KB. docs/PROMISES.md says how that was measured. A call that runs out of
+ *   stack is stopped by the system, so a thread with a small one is no place for it.
  *
  * No call borrows other memory, keeps a pointer after it has answered, or holds anything from one call to the next: calls may be made
  * from several threads at once.
@@ -37,7 +38,7 @@ enum {
     BROOKSADDLE_LONGEST_CONTENT = 120,     /* in bytes */
     BROOKSADDLE_GREATEST_NUMBER = 65535,   /* of a record; the least is 1 */
     BROOKSADDLE_TOP = 0,                   /* the parent of records that have no record as parent */
-    BROOKSADDLE_MOST_LEDGER_BYTES = 8192   /* so much room is enough for any ledger */
+    BROOKSADDLE_MOST_LEDGER_BYTES = 8192   /* so much room is enough for any ledger: none is over 6,160 bytes */
 };
 
 /* The codes, and the place each is told with. */
@@ -122,7 +123,8 @@ struct brooksaddle_tidied brooksaddle_tidy(const uint8_t *text, size_t length, u
  * Merges the edits that first and second make to old. Every edit of both desks is taken, or the merge is refused.
  *
  * Accepted, the merged table lies in the buffer `table` from byte 0 on and its ledger in `ledger`, and the bytes past their lengths
- * stay as they were. Refused, both buffers stay as they were. 32,768 bytes for the table and 8,192 for the ledger are always enough.
+ * stay as they were. Refused, both buffers stay as they were. 32,768 bytes for the table and 8,192 for the ledger are always enough:
+ * that is proved.
  */
 struct brooksaddle_merged brooksaddle_merge(const uint8_t *old, size_t old_length, const uint8_t *first, size_t first_length,
                                             const uint8_t *second, size_t second_length, uint8_t *table, size_t table_room,

@@ -1,4 +1,4 @@
--- The demands, over the texts handed in and the bytes written. Begin with OnTheCall; OnCheck and OnTidy state the other two calls.
+-- The demands, over the texts handed in and the bytes written. Begin with OnTheCall; OnCheck, OnTidy and OnContent state the other calls.
 pub mod Packing
 pub mod Reading
 pub mod Coded
@@ -15,6 +15,7 @@ pub mod Lengths
 pub mod OnTheCall
 pub mod OnCheck
 pub mod OnTidy
+pub mod OnContent
 pub mod Printed
 pub mod Ranges
 pub mod TidyTwice
