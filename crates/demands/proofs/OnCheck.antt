@@ -3,9 +3,10 @@
 -- counted and its tree measured. Refused: the code and the line that these words give, no count and no depth. t are a table's rows. Assumes
 -- nothing.
 use mathlib.Core.Path.{_≡_, refl, sym, ap, _∙_, subst}
-use mathlib.Core.Logic.{_↔_}
+use mathlib.Core.Logic.{_⊎_, inl, inr, _↔_}
 use mathlib.Core.List.{List, []}
 use Prim.Native.Nat.{ℕ}
+use native.Mathlib.Omega.{arith}
 use lib.ListN.{length}
 use Rattle.rules.specs.Line.{Row}
 use Rattle.rules.specs.Table.{Verdict, readable, unreadable, verdict}
@@ -28,6 +29,20 @@ readable-exactly = exactly
 -- and it is refused, with this code on this line, exactly if document 01's words give it that code there
 pub unreadable-exactly : (text : List ℕ) (code line : ℕ) → (verdict text ≡ unreadable code line) ↔ Refused text code line
 unreadable-exactly = words
+
+-- every byte string is one or the other, and none is both
+pub every-text : (text : List ℕ) → ((t : List Row) × IsTable text t) ⊎ ((code : ℕ) × (line : ℕ) × Refused text code line)
+every-text text = go (verdict text) refl
+  where
+    go : (v : Verdict) → verdict text ≡ v → ((t : List Row) × IsTable text t) ⊎ ((code : ℕ) × (line : ℕ) × Refused text code line)
+    go (readable t) e = inl (t, exactly text t .0 e)
+    go (unreadable code line) e = inr (code, line, words text code line .0 e)
+
+pub never-both : (text : List ℕ) (t : List Row) (code line : ℕ) → IsTable text t → Refused text code line → ⊥
+never-both text t code line p q =
+    let e : readable t ≡ unreadable code line = sym (exactly text t .1 p) ∙ words text code line .1 q in
+    let z : _≡_ {A = ℕ} 0 1 = cc in
+    omega arith
 
 -- "code, line, count of records, greatest depth"
 abbrev pub four : ℕ → ℕ → ℕ → ℕ → Checked

@@ -1,7 +1,7 @@
 -- The call of content: `content` (crates/brooksaddle/src/lib.rt) asks nothing, and ensures `HandsBack` of the text handed in and the part
 -- handed back; its export answers where that part starts and how long it is. What follows holds of every such call: the part holds the
--- record's content; for a refused table or an absent number it is the empty part at the start of the text. t are a table's rows, x is one of
--- them, n a number. Assumes nothing.
+-- record's content; for a refused table or an absent number it is the empty part at the start of the text. t are a table's rows, x is one
+-- of them, n a number. Assumes nothing.
 use mathlib.Core.Path.{_≡_, refl, sym, ap, _∙_}
 use mathlib.Core.List.{List, []}
 use Prim.Native.Nat.{ℕ, _+_}

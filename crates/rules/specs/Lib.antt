@@ -7,8 +7,8 @@
 --     Lettered trees                proofs/Lettered
 --     Slips to rule out             must-fail/
 --     Promises                      Promises, proofs/Settled
--- and what the three demands speak of stands in Demands and Room. ReadableText and UnreadableText say in document 01's own words, with its numbers
--- and nothing on how a text is read, what a table is and what a refusal. Lists and Quoted are words that the others use.
+-- and what the three demands speak of stands in Demands and Room. ReadableText and UnreadableText say in document 01's own words, with its
+-- numbers and nothing on how a text is read, what a table is and what is none. Lists and Quoted are words that the others use.
 pub mod Limits
 pub mod Codes
 pub mod Lists
