@@ -12,6 +12,7 @@ pub mod Clashes
 pub mod LackOfRoom
 pub mod Bounds
 pub mod Lengths
+pub mod OnOrigins
 pub mod OnTheCall
 pub mod OnCheck
 pub mod OnTidy

@@ -1,5 +1,5 @@
--- Texts in, the numbers out, with document 01's numbers written out: the answers of check and tidy, the five numbers of merge and what is
--- printed. Among them a content of 120 and of 121 bytes, and buffers exactly long enough and one byte short. Assumes nothing.
+-- Texts in, the numbers out, with document 01's numbers written out: the answers of check, tidy and content, the five numbers of merge and
+-- what is printed. Among them a content of 120 and of 121 bytes, and buffers exactly long enough and one byte short. Assumes nothing.
 use mathlib.Core.Path.{_≡_, refl}
 use mathlib.Core.List.{List, [], _∷_, map}
 use Prim.Native.Nat.{ℕ}
@@ -11,8 +11,10 @@ use Rattle.rules.specs.Merge.{merge, contentClashes, parentClashes, neig
 use Rattle.rules.specs.Merge.{keptPositions, keptContents, positionEdits, contentEdits, walk, follower, contentIn}
 use Rattle.rules.specs.Written.{digits}
 use Rattle.rules.specs.Calls.{Outcome, tooLarge, mergeTexts, mergeTables, told, answerOf, shown, checkAnswer, tidyAnswer}
+use Rattle.rules.specs.Calls.{contentAnswer}
 use Rattle.rules.specs.declared.answers.Checked.{Checked}
 use Rattle.rules.specs.declared.answers.Tidied.{Tidied}
+use Rattle.rules.specs.declared.answers.Part.{Part}
 use Rattle.rules.specs.declared.answers.Merged.{Merged}
 
 -- ---- check
@@ -80,6 +82,29 @@ pub tidies : map (λ (k : Room). tidyAnswer (bytes (k .text)) (k .room)) rooms �
 unfolding treeOf hang digits
 tidies = refl
 
+-- ---- content
+
+-- a text, a number, and where its content starts and how long it is
+pub record Asked : Type 0 where
+  pub text : String
+  pub number : ℕ
+  pub answer : Part
+
+abbrev asked : String → ℕ → ℕ → ℕ → Asked
+asked text number start long = record { text = text; number = number; answer = record { start = start; length = long } }
+
+-- two records with one content, each has its own; an absent number; a refused text
+abbrev pub asks : List Asked
+asks =
+    asked "1\t0\ta\tb\n22\t1\ta\tb\n" 1 4 3
+    ∷ asked "1\t0\ta\tb\n22\t1\ta\tb\n" 22 13 3
+    ∷ asked "1\t0\ta\tb\n22\t1\ta\tb\n" 2 0 0
+    ∷ asked "1\t0\ta\tb\n22\t2\ta\tb\n" 1 0 0
+    ∷ []
+
+pub contents : map (λ (k : Asked). contentAnswer (bytes (k .text)) (k .number)) asks ≡ map (λ (k : Asked). k .answer) asks
+contents = refl
+
 -- ---- merge
 
 -- three texts, the room of both buffers, the five numbers, and what is printed
@@ -124,6 +149,9 @@ merges =
     ∷ texts (two "turn") (two "hold") 20 23 (five 31 0 0 21 23) "31\t0\t0\t21\t23\n"
     ∷ texts (two "turn") (two "hold") 21 22 (five 32 0 0 21 23) "32\t0\t0\t21\t23\n"
     ∷ texts (two "turn") (two "hold") 20 22 (five 31 0 0 21 23) "31\t0\t0\t21\t23\n"
+    -- a new record with the content that old has under another number is first's
+    ∷ texts (two "hold\n3\t1\thold") (two "hold") 30 29 (five 0 0 0 30 29)
+    ("0\t0\t0\t30\t29\n" ++ (two "hold\n3\t1\thold" ++ "1\t0\t7\n2\t0\t4\n3\t1\t4\ntotal\t3\t15\n"))
     ∷ []
 
 abbrev pub outcome : Merge → Outcome

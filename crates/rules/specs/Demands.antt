@@ -90,6 +90,15 @@ tradedOutcome tooLarge = tooLarge
 tradedOutcome (noRoom code tableLength ledgerLength) = noRoom code tableLength ledgerLength
 tradedOutcome (done table es) = done table (map tradedEntry es)
 
+-- ---- the ledger
+
+-- "Origin is 0 if the content equals old's for that number; otherwise 1 if only first has it, 2 if only second, 3 if both."
+pub data OriginIs (old first second : Facts) (a : ContentFact) : ℕ → Type 0 where
+  of-old : a ∈ old .contents → OriginIs old first second a 0
+  only-first : (a ∈ old .contents → ⊥) → a ∈ first .contents → (a ∈ second .contents → ⊥) → OriginIs old first second a 1
+  only-second : (a ∈ old .contents → ⊥) → (a ∈ first .contents → ⊥) → a ∈ second .contents → OriginIs old first second a 2
+  of-both : (a ∈ old .contents → ⊥) → a ∈ first .contents → a ∈ second .contents → OriginIs old first second a 3
+
 -- ---- demand 3 on texts
 
 -- the texts' tables, all of them readable

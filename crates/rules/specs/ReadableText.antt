@@ -6,7 +6,6 @@ use mathlib.Core.List.{List, _∷_, _++_}
 use Prim.Native.Nat.{ℕ, _≤_}
 use lib.ListN.{length}
 use Rattle.rules.specs.Lists.{_∈_, flat}
-use Rattle.rules.specs.Text.{TAB}
 use Rattle.rules.specs.Line.{Row}
 use Rattle.rules.specs.Table.{numbers}
 use Rattle.rules.specs.Written.{written}
@@ -20,7 +19,7 @@ pub record IsField (s : List ℕ) : Type 0 where
 pub record IsContent (c : List ℕ) : Type 0 where
   pub kind : List ℕ
   pub others : List (List ℕ)
-  pub parted : c ≡ kind ++ flat (λ (field : List ℕ). TAB ∷ field) others
+  pub parted : c ≡ kind ++ flat (λ (field : List ℕ). 9 ∷ field) others
   pub fields : (s : List ℕ) → s ∈ kind ∷ others → IsField s
   pub some : 1 ≤ length c
   pub few : length c ≤ 120
