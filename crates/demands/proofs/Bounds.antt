@@ -28,14 +28,14 @@ use Rattle.demands.proofs.Demand3.{answer-writable}
 
 -- ---- one line
 
-mark-few : (old first second : Bool) → mark old first second < 10
+pub mark-few : (old first second : Bool) → mark old first second < 10
 mark-few true first second = omega arith
 mark-few false true false = omega arith
 mark-few false false true = omega arith
 mark-few false true true = omega arith
 mark-few false false false = omega arith
 
-content-few : (c : List ℕ) → Writable c → length c ≤ 120
+pub content-few : (c : List ℕ) → Writable c → length c ≤ 120
 content-few c w =
     let a = and-yes (leb 1 (length c)) _ (w .rule) in
     leb-yes (and-yes (leb (length c) CONTENT) (every filled (fields c)) (a .1) .0)

@@ -16,6 +16,8 @@ pub mod OnTheCall
 pub mod OnCheck
 pub mod OnTidy
 pub mod OnContent
+pub mod OnLedger
+pub mod NumberLines
 pub mod Printed
 pub mod Ranges
 pub mod TidyTwice
