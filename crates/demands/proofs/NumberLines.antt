@@ -1,5 +1,6 @@
 -- A line of numbers parted by tabs: its fields are the digits of the numbers, no LF stands in it, and the digits read back as the numbers.
--- n and k are numbers, ns are the numbers behind the first field, `rest` is what stands behind the line. Assumes nothing.
+-- The same for numbers behind a word. n and k are numbers, ns are those behind the first, s is a field, `rest` is what stands behind the
+-- line. Assumes nothing.
 use mathlib.Core.Path.{_≡_, refl, sym, ap, ap₂, _∙_}
 use mathlib.Core.List.{List, [], _∷_, _++_, map, append-assoc, append-nil, List·Memᴰ·head as here, List·Memᴰ·tail as there, Memᴰ·of-map}
 use Prim.Native.Nat.{ℕ, _<_}

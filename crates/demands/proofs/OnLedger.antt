@@ -27,7 +27,8 @@ use Rattle.trees.proofs.Trees.{tree-distinct}
 use Rattle.readback.proofs.Splitting.{every-in, lines-at}
 use Rattle.readback.proofs.Decimals.{digits-value}
 use Rattle.readback.proofs.ReadBack.{written-length}
-use Rattle.demands.proofs.NumberLines.{numbers-back, numberLine, line-fields, one-line, line-followed, wordLine, word-fields, word-one-line}
+use Rattle.demands.proofs.NumberLines.{numbers-back, numberLine, line-fields, one-line, line-followed}
+use Rattle.demands.proofs.NumberLines.{wordLine, word-fields, word-one-line}
 use Rattle.demands.proofs.Demand2.{bytes-total}
 use Rattle.demands.proofs.Bounds.{content-few, origin-few}
 use Rattle.demands.proofs.OnTheCall.{Wrote, demand3, demand3-written}
@@ -72,6 +73,7 @@ total-fields es =
     ∙ ap (map fields) (lines-at (wordLine (bytes "total") n (k ∷ [])) [] (word-one-line (bytes "total") n (k ∷ []) tt))
     ∙ ap (λ (l : List (List ℕ)). l ∷ []) (word-fields (bytes "total") n (k ∷ []) no-tab-in-total)
 
+-- a line for each entry in order, and the last line: their number and the sum of their bytes
 pub ledger-fields : (es : List Entry) → map fields (lines (ledgerOf es))
     ≡ map entryFields es ++ (totalFields (length es) (sum (λ (e : Entry). e .bytes) es) ∷ [])
 ledger-fields es =
