@@ -35,7 +35,7 @@ mark-few false false true = omega arith
 mark-few false true true = omega arith
 mark-few false false false = omega arith
 
-content-few : (c : List ℕ) → Writable c → length c ≤ 120
+pub content-few : (c : List ℕ) → Writable c → length c ≤ 120
 content-few c w =
     let a = and-yes (leb 1 (length c)) _ (w .rule) in
     leb-yes (and-yes (leb (length c) CONTENT) (every filled (fields c)) (a .1) .0)
@@ -49,6 +49,10 @@ module _ (old first second : Facts) where
   abbrev entriesHere : List Row → List Entry
   entriesHere t = entries old (first ∷ second ∷ []) t
 
+  pub origin-few : (x : Row) → origin old (first ∷ second ∷ []) x < 10
+  origin-few x =
+      subst (λ (k : ℕ). k < 10) (sym (origin-is old first second x)) (mark-few (holds old x) (holds first x) (holds second x))
+
   lines-few : (t : List Row) → ((x : Row) → x ∈ t → Short x) → length (flat entryLine (entriesHere t)) ≤ length t * 12
   lines-few [] h = omega arith
   lines-few (x ∷ t) h =
@@ -58,14 +62,12 @@ module _ (old first second : Facts) where
         bytes = length (x .content);
       } in
       let s = h x (here refl) in
-      let one : origin old (first ∷ second ∷ []) x < 10 =
-      subst (λ (k : ℕ). k < 10) (sym (origin-is old first second x)) (mark-few (holds old x) (holds first x) (holds second x)) in
       omega (
         arith,
         length-append (entryLine e) (flat entryLine (entriesHere t)),
         entry-length e,
         width-five (x .number) (omega (arith, record-high (x .number) (s .number))),
-        width-one (e .origin) one,
+        width-one (e .origin) (origin-few x),
         width-three (length (x .content)) (omega (arith, content-few (x .content) (s .content))),
         lines-few t (λ y m. h y (there m)),
       )

@@ -23,7 +23,8 @@ pub text-tree : (text : List ℕ) (t : List Row) → verdict text ≡ readable t
 text-tree text t e = tree-of-table t (good-readable t (good text t e))
 
 -- the ledger's total counts the contents
-bytes-total : (old : Facts) (branches : List Facts) (t : List Row) → sum (λ (e : Entry). e .bytes) (entries old branches t) ≡ contentBytes t
+pub bytes-total : (old : Facts) (branches : List Facts) (t : List Row)
+    → sum (λ (e : Entry). e .bytes) (entries old branches t) ≡ contentBytes t
 bytes-total old branches [] = refl
 bytes-total old branches (x ∷ t) = ap (λ (k : ℕ). length (x .content) + k) (bytes-total old branches t)
 

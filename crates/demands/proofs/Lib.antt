@@ -1,4 +1,5 @@
--- The demands, over the texts handed in and the bytes written. Begin with OnTheCall; OnCheck, OnTidy and OnContent state the other calls.
+-- The demands, over the texts handed in and the bytes written. Begin with OnTheCall; OnLedger states what its ledger says, OnCheck, OnTidy
+-- and OnContent state the other calls.
 pub mod Packing
 pub mod Reading
 pub mod Coded
@@ -17,6 +18,8 @@ pub mod OnTheCall
 pub mod OnCheck
 pub mod OnTidy
 pub mod OnContent
+pub mod OnLedger
+pub mod NumberLines
 pub mod Printed
 pub mod Ranges
 pub mod TidyTwice

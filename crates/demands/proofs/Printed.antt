@@ -1,58 +1,16 @@
 -- The demonstration's output, read back: its first line has five fields, the digits of the five numbers in document 01's order, and behind
--- it stand the table and the ledger if the merge is done, and nothing if it is not. n, k and ns are numbers. Assumes nothing.
-use mathlib.Core.Path.{_≡_, refl, sym, ap, ap₂, _∙_}
-use mathlib.Core.List.{List, [], _∷_, _++_, map, append-assoc, append-nil, List·Memᴰ·head as here, List·Memᴰ·tail as there, Memᴰ·of-map}
+-- it stand the table and the ledger if the merge is done, and nothing if it is not. k is a number. Assumes nothing.
+use mathlib.Core.Path.{_≡_, refl, sym, ap, _∙_}
+use mathlib.Core.List.{List, [], _∷_, _++_, map, append-nil}
 use Prim.Native.Nat.{ℕ, _<_}
-use lib.Dec.{T}
 use lib.Seq.{append-snoc}
-use Rattle.rules.specs.Lists.{_∈_, every, flat}
-use Rattle.rules.specs.Text.{TAB, LF, allowed, digit, before, after, fields, value}
-use Rattle.rules.specs.Written.{digits}
+use Rattle.rules.specs.Lists.{_∈_}
+use Rattle.rules.specs.Text.{LF, before, after, fields, value}
 use Rattle.rules.specs.Ledger.{ledger}
 use Rattle.rules.specs.Calls.{Outcome, notRead, clash, tooLarge, noRoom, done, answerOf, fiveNumbers, shown}
 use Rattle.rules.specs.declared.answers.Merged.{Merged}
-use Rattle.readback.proofs.Splitting.{every-in, every-append, before-at, after-at}
-use Rattle.readback.proofs.Decimals.{digits-every, digits-value}
-use Rattle.readback.proofs.Contents.{tabbed, fields-parted}
-use Rattle.readback.proofs.ReadBack.{digits-allowed}
-
--- ---- a line of numbers parted by tabs
-
-numbers-back : (ns : List ℕ) → ((k : ℕ) → k ∈ ns → k < 1000000) → map value (map digits ns) ≡ ns
-numbers-back [] h = refl
-numbers-back (n ∷ ns) h =
-    ap₂ (λ (x : ℕ) (xs : List ℕ). x ∷ xs) (digits-value n (h n (here refl))) (numbers-back ns (λ k m. h k (there m)))
-
-others-allowed : (ns : List ℕ) → T (every allowed (flat tabbed (map digits ns)))
-others-allowed [] = tt
-others-allowed (n ∷ ns) = every-append allowed (digits n) (flat tabbed (map digits ns)) (digits-allowed n) (others-allowed ns)
-
-module _ (n : ℕ) (ns : List ℕ) where
-  abbrev line : List ℕ
-  line = digits n ++ flat tabbed (map digits ns)
-
-  line-fields : fields line ≡ map digits (n ∷ ns)
-  line-fields = fields-parted (digits n) (map digits ns) no-tab
-    where
-      no-tab : (s : List ℕ) → s ∈ digits n ∷ map digits ns → TAB ∈ s → ⊥
-      no-tab s m i =
-          let w = Memᴰ·of-map digits (n ∷ ns) m in
-          let d : T (every digit s) = rw (sym (w .2)) (digits-every (w .0)) in
-          every-in digit s d i
-
-  one-line : LF ∈ line → ⊥
-  one-line m =
-      every-in allowed line (every-append allowed (digits n) (flat tabbed (map digits ns)) (digits-allowed n) (others-allowed ns)) m
-
--- what stands behind the numbers stands behind the last of them
-abbrev followed : List ℕ → ℕ → List ℕ → List ℕ
-followed rest n [] = digits n ++ rest
-followed rest n (k ∷ ns) = digits n ++ (TAB ∷ followed rest k ns)
-
-line-followed : (rest : List ℕ) (n : ℕ) (ns : List ℕ) → followed rest n ns ≡ line n ns ++ rest
-line-followed rest n [] = ap (λ (s : List ℕ). s ++ rest) (sym (append-nil (digits n)))
-line-followed rest n (k ∷ ns) =
-    ap (λ (s : List ℕ). digits n ++ (TAB ∷ s)) (line-followed rest k ns) ∙ sym (append-assoc (digits n) (TAB ∷ line k ns) rest)
+use Rattle.readback.proofs.Splitting.{before-at, after-at}
+use Rattle.demands.proofs.NumberLines.{numbers-back, numberLine, line-fields, one-line, line-followed}
 
 -- ---- the output
 
@@ -72,7 +30,7 @@ abbrev others : Merged → List ℕ
 others m = m .table ∷ m .place ∷ m .«table_length» ∷ m .«ledger_length» ∷ []
 
 abbrev firstLine : Merged → List ℕ
-firstLine m = line (m .code) (others m)
+firstLine m = numberLine (m .code) (others m)
 
 five-line : (m : Merged) → fiveNumbers m ≡ firstLine m ++ (LF ∷ [])
 five-line m = line-followed (LF ∷ []) (m .code) (others m)
