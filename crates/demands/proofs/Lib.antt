@@ -14,6 +14,7 @@ pub mod Bounds
 pub mod Lengths
 pub mod OnTheCall
 pub mod OnCheck
+pub mod OnRefusal
 pub mod OnTidy
 pub mod OnContent
 pub mod Printed
