@@ -1,6 +1,6 @@
--- The codes that a call of merge tells: 0, 1 to 10, 21 to 26, 31 and 32, and no other. With 1 to 10 the table told is the first of old, first
--- and second that is no table, and code and place are those of its text, in document 01's words; with every other code the table told is 0.
--- k and j are the numbers of a table. Assumes nothing.
+-- The codes that a call of merge tells: 0, 1 to 10, 21 to 26, 31 and 32, and no other. With 1 to 10 the table told is the first of old,
+-- first and second that is no table, and code and place are those of its text, in document 01's words; with every other code the table told
+-- is 0. k and j are the numbers of a table. Assumes nothing.
 use mathlib.Core.Path.{_≡_, refl, sym, ap, _∙_, subst}
 use mathlib.Core.Logic.{_⊎_, inl, inr, _↔_}
 use mathlib.Core.List.{List, [], _∷_, map}
