@@ -1,4 +1,5 @@
--- The demands, over the texts handed in and the bytes written. Begin with OnTheCall; OnCheck, OnTidy and OnContent state the other calls.
+-- The demands, over the texts handed in and the bytes written. Begin with OnTheCall; OnRefusal has the codes that merge tells, OnCheck,
+-- OnTidy and OnContent state the other calls.
 pub mod Packing
 pub mod Reading
 pub mod Coded
