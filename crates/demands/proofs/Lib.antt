@@ -1,5 +1,5 @@
--- The demands, over the texts handed in and the bytes written. Begin with OnTheCall; OnLedger states what its ledger says, OnCheck, OnTidy
--- and OnContent state the other calls.
+-- The demands, over the texts handed in and the bytes written. Begin with OnTheCall; OnRefusal has the codes that merge tells, OnLedger and
+-- OnOrigins what its ledger says. OnCheck, OnTidy and OnContent state the other calls.
 pub mod Packing
 pub mod Reading
 pub mod Coded
@@ -16,10 +16,11 @@ pub mod Lengths
 pub mod OnOrigins
 pub mod OnTheCall
 pub mod OnCheck
+pub mod OnRefusal
 pub mod OnTidy
 pub mod OnContent
-pub mod OnLedger
 pub mod NumberLines
+pub mod OnLedger
 pub mod Printed
 pub mod Ranges
 pub mod TidyTwice

@@ -5,7 +5,7 @@
 use mathlib.Core.Path.{_≡_, refl, sym, ap, _∙_, subst}
 use mathlib.Core.Logic.{_⊎_, inl, inr, _↔_}
 use mathlib.Core.List.{List, []}
-use Prim.Native.Nat.{ℕ}
+use Prim.Native.Nat.{ℕ, _≤_}
 use native.Mathlib.Omega.{arith}
 use lib.ListN.{length}
 use Rattle.rules.specs.Line.{Row}
@@ -20,7 +20,7 @@ use Rattle.trees.proofs.Deepest.{height, deepest}
 use Rattle.readback.proofs.Following.{good-readable}
 use Rattle.readback.proofs.Accepting.{good, refused-code}
 use Rattle.readback.proofs.ReadableText.{readable-exactly as exactly}
-use Rattle.readback.proofs.UnreadableText.{unreadable-exactly as words}
+use Rattle.readback.proofs.UnreadableText.{unreadable-exactly as words, refused-range}
 
 -- a text is read, with these rows, exactly if it is a table with these rows in document 01's words
 pub readable-exactly : (text : List ℕ) (t : List Row) → (verdict text ≡ readable t) ↔ IsTable text t
@@ -95,3 +95,14 @@ module _ (text : List ℕ) (answer : Checked) (call : Checks text answer) where
             subst (λ (a : Checked). Refused text (a .code) (a .line)) (sym told) (words text code line .0 e),
             told ∙ λ i. four (sym told i .code) (sym told i .line) 0 0,
           )
+
+  -- so the code is 0 or one of 1 to 10
+  pub check-codes : (answer .code ≡ 0) ⊎ ((1 ≤ answer .code) × (answer .code ≤ 10))
+  check-codes = go (verdict text) refl
+    where
+      go : (v : Verdict) → verdict text ≡ v → (answer .code ≡ 0) ⊎ ((1 ≤ answer .code) × (answer .code ≤ 10))
+      go (readable t) e = inl (ap (λ (a : Checked). a .code) (read t e))
+      go (unreadable code line) e =
+          let c : answer .code ≡ code = ap (λ (a : Checked). a .code) (unread code line e) in
+          let r = refused-range text code line e in
+          inr (omega (arith, c, r .0), omega (arith, c, r .1))

@@ -1,8 +1,8 @@
 -- The three demands on the call of merge: here a visitor begins. `merge` and its export (crates/brooksaddle/src/lib.rt) ask nothing, and
 -- ensure `Merges` of the texts handed in, the five numbers answered and the two lent buffers; what follows holds of every such call. `old`,
--- `first` and `second` are the texts, `table` and `ledger` the buffers before the call; a name with a prime is a buffer after it. What each
--- code means is said here in words of texts, facts, edits and lengths (rules/specs/UnreadableText, Conditions, Room), not by the definitions
--- that compute the merge. Assumes nothing.
+-- `first` and `second` are the texts, `table` and `ledger` the buffers before the call; a name with a prime is a buffer after it. What
+-- each code means is said here in words of texts, facts, edits and lengths (rules/specs/UnreadableText, Conditions, Room), not by the
+-- definitions that compute the merge. Assumes nothing.
 use mathlib.Core.Path.{_≡_, refl, sym, ap, _∙_}
 use mathlib.Core.Logic.{_⊎_, inl, inr, _↔_}
 use mathlib.Core.List.{List, [], _∷_, map}
@@ -241,8 +241,8 @@ tables-are old first second o f s p q r =
       branches-read = λ i. readable-exactly first f .1 q i ∷ readable-exactly second s .1 r i ∷ [];
     }
 
--- ---- demand 1: "Lack of room is told by kind, for a short buffer with the lengths needed"; and once more the unreadable table, in document
--- 01's words
+-- ---- demand 1: "Lack of room is told by kind, for a short buffer with the lengths needed"; and once more the unreadable table, in
+-- document 01's words
 
 module _ (old first second table ledger : List ℕ) (answer : Merged) (table′ ledger′ : List ℕ)
     (call : Merges old first second table ledger answer table′ ledger′) where

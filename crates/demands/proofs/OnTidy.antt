@@ -2,8 +2,8 @@
 -- numbers answered and the lent buffer; what follows holds of every such call. The written form is as long as the text, so a buffer as long
 -- as the text is always enough; what is written reads back as the same tree. t are a table's rows; a name with a prime is the buffer after
 -- the call. That a second call changes nothing is in TidyTwice, that a refused one leaves the buffer in Demand1. Assumes nothing.
-use mathlib.Core.Path.{_≡_, refl, sym, ap, _∙_}
-use mathlib.Core.Logic.{_↔_}
+use mathlib.Core.Path.{_≡_, refl, sym, ap, _∙_, subst}
+use mathlib.Core.Logic.{_⊎_, inl, inr, _↔_}
 use mathlib.Core.Bool.{Bool, true, false, cond}
 use mathlib.Core.List.{List}
 use Prim.Native.Nat.{ℕ, _<_, _≤_}
@@ -26,6 +26,7 @@ use Rattle.readback.proofs.ReadableText.{readable-exactly}
 use Rattle.readback.proofs.UnreadableText.{unreadable-exactly, refused-range}
 use Rattle.readback.proofs.TreesBack.{same-tree}
 use Rattle.readback.proofs.Tidying.{tidied-length, tidied-within, tidied-again}
+use Rattle.demands.proofs.OnCheck.{every-text}
 
 module _ (text buffer : List ℕ) (answer : Tidied) (buffer′ : List ℕ) (call : Tidies text buffer answer buffer′) where
   code-is : (code line long : ℕ) → answer ≡ tidyTold code line long → answer .code ≡ code
@@ -107,10 +108,44 @@ module _ (text buffer : List ℕ) (answer : Tidied) (buffer′ : List ℕ) (call
   pub tidy-31-told : (t : List Row) → IsTable text t → length buffer < length text → answer ≡ tidyTold 31 0 (length text)
   tidy-31-told t w = short t (readable-exactly text t .1 w)
 
+  -- of a table 0 or 31 is told
+  table-codes : (t : List Row) → IsTable text t → (answer .code ≡ 0) ⊎ (answer .code ≡ 31)
+  table-codes t w = go (ltb (length buffer) (length text)) refl
+    where
+      go : (b : Bool) → ltb (length buffer) (length text) ≡ b → (answer .code ≡ 0) ⊎ (answer .code ≡ 31)
+      go true q = inr (code-is 31 0 (length text) (tidy-31-told t w (ltb-true (length buffer) (length text) q)))
+      go false q = inl (code-is 0 0 (length text) (tidy-told t w (ltb-false (length buffer) (length text) q)))
+
   -- a text that is no table: its code and line, and no length
   pub tidy-refused-told : (code line : ℕ) → Refused text code line → answer ≡ tidyTold code line 0
   tidy-refused-told code line w =
       call .answered ∙ ap (λ (v : Verdict). tidyOf v (length buffer)) (unreadable-exactly text code line .1 w)
+
+  -- and no other code or line is told: 0 and 31 are told of a table, every other code of a text that is none
+  pub tidy-unread-told : (answer .code ≡ 0 → ⊥) → (answer .code ≡ 31 → ⊥)
+      → Refused text (answer .code) (answer .line) × (answer ≡ tidyTold (answer .code) (answer .line) 0)
+  tidy-unread-told f g = go (every-text text)
+    where
+      go : ((t : List Row) × IsTable text t) ⊎ ((code : ℕ) × (line : ℕ) × Refused text code line)
+          → Refused text (answer .code) (answer .line) × (answer ≡ tidyTold (answer .code) (answer .line) 0)
+      go (inl w) = elim (table-codes (w .0) (w .1)) [ inl z ↦ absurd (f z) | inr z ↦ absurd (g z) ]
+      go (inr u) =
+          let is : answer ≡ tidyTold (u .0) (u .1) 0 = tidy-refused-told (u .0) (u .1) (u .2) in (
+            subst (λ (a : Tidied). Refused text (a .code) (a .line)) (sym is) (u .2),
+            is ∙ λ i. tidyTold (sym is i .code) (sym is i .line) 0,
+          )
+
+  -- so the code is 0, one of 1 to 10, or 31
+  pub tidy-codes : (answer .code ≡ 0) ⊎ (((1 ≤ answer .code) × (answer .code ≤ 10)) ⊎ (answer .code ≡ 31))
+  tidy-codes = go (every-text text)
+    where
+      go : ((t : List Row) × IsTable text t) ⊎ ((code : ℕ) × (line : ℕ) × Refused text code line)
+          → (answer .code ≡ 0) ⊎ (((1 ≤ answer .code) × (answer .code ≤ 10)) ⊎ (answer .code ≡ 31))
+      go (inl w) = elim (table-codes (w .0) (w .1)) [ inl z ↦ inl z | inr z ↦ inr (inr z) ]
+      go (inr u) =
+          let c = code-is (u .0) (u .1) 0 (tidy-refused-told (u .0) (u .1) (u .2)) in
+          let r = refused-range text (u .0) (u .1) (unreadable-exactly text (u .0) (u .1) .1 (u .2)) in
+          inr (inl (omega (arith, c, r .0), omega (arith, c, r .1)))
 
   -- a buffer as long as the text is always enough, whatever the text
   pub tidy-never-31 : length text ≤ length buffer → answer .code ≡ 31 → ⊥

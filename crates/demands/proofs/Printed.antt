@@ -6,6 +6,7 @@ use Prim.Native.Nat.{ℕ, _<_}
 use lib.Seq.{append-snoc}
 use Rattle.rules.specs.Lists.{_∈_}
 use Rattle.rules.specs.Text.{LF, before, after, fields, value}
+use Rattle.rules.specs.Written.{digits}
 use Rattle.rules.specs.Ledger.{ledger}
 use Rattle.rules.specs.Calls.{Outcome, notRead, clash, tooLarge, noRoom, done, answerOf, fiveNumbers, shown}
 use Rattle.rules.specs.declared.answers.Merged.{Merged}
@@ -49,14 +50,16 @@ module _ (end : Outcome) where
   parts : shown end ≡ firstLine m ++ (LF ∷ behind end)
   parts = shown-parts end ∙ ap (λ (s : List ℕ). s ++ behind end) (five-line m) ∙ append-snoc (firstLine m) LF (behind end)
 
-  -- the first line's fields are the five numbers
+  -- the first line's fields are the five numbers' digits
+  pub printed-fields : fields (before LF (shown end)) ≡ map digits (inOrder (answerOf end))
+  printed-fields =
+      ap fields (ap (before LF) parts ∙ before-at LF (firstLine m) (behind end) (one-line (m .code) (others m)))
+      ∙ line-fields (m .code) (others m)
+
+  -- and their values are the five numbers
   pub printed-numbers : ((k : ℕ) → k ∈ inOrder (answerOf end) → k < 1000000)
       → map value (fields (before LF (shown end))) ≡ inOrder (answerOf end)
-  printed-numbers h =
-      ap (λ (s : List ℕ). map value (fields s))
-      (ap (before LF) parts ∙ before-at LF (firstLine m) (behind end) (one-line (m .code) (others m)))
-      ∙ ap (map value) (line-fields (m .code) (others m))
-      ∙ numbers-back (inOrder m) h
+  printed-numbers h = ap (map value) printed-fields ∙ numbers-back (inOrder m) h
 
   -- what stands behind it
   pub printed-behind : after LF (shown end) ≡ behind end

@@ -11,6 +11,7 @@ use Rattle.rules.specs.Lists.{_∈_}
 use Rattle.rules.specs.Text.{LF, before, fields, value}
 use Rattle.rules.specs.Line.{Row}
 use Rattle.rules.specs.Tree.{Tree}
+use Rattle.rules.specs.Written.{digits}
 use Rattle.rules.specs.Facts.{factsOf}
 use Rattle.rules.specs.Merge.{refused, merge}
 use Rattle.rules.specs.Ledger.{entriesOf}
@@ -31,7 +32,7 @@ use Rattle.demands.proofs.Unread.{Unread, read-or-not}
 use Rattle.demands.proofs.Room.{Ends, large, tableLong, ledgerLong, fits, Clashed, ends, answer-ends}
 use Rattle.demands.proofs.Lengths.{all-limited}
 use Rattle.demands.proofs.Clashes.{one-read}
-use Rattle.demands.proofs.Printed.{inOrder, printed-numbers}
+use Rattle.demands.proofs.Printed.{inOrder, printed-fields, printed-numbers}
 
 -- ---- the line of a refused table
 
@@ -116,7 +117,12 @@ module _ (old first second table ledger : List ℕ) (answer : Merged) (table′ 
       omega (arith, e, all-limited old first second (length table) (length ledger) answer (call .answered) .ledger)
   small k (there (there (there (there (there m))))) = absurd (List·Memᴰ·not-nil m)
 
-  -- what the demonstration prints of this merge: its first line has the five numbers, in the order of the call
+  -- what the demonstration prints of this merge: the fields of its first line are the digits of the five numbers, in the order of the call
+  pub printed-digits : fields (before LF (shown (mergeOutcome old first second table ledger))) ≡ map digits (inOrder answer)
+  printed-digits =
+      printed-fields (mergeOutcome old first second table ledger) ∙ ap (λ (m : Merged). map digits (inOrder m)) (sym (call .answered))
+
+  -- and they read back as these numbers
   pub printed-answer : map value (fields (before LF (shown (mergeOutcome old first second table ledger)))) ≡ inOrder answer
   printed-answer =
       printed-numbers (mergeOutcome old first second table ledger) (subst (λ (m : Merged). (k : ℕ) → k ∈ inOrder m → k < 1000000)
