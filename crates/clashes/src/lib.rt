@@ -15,7 +15,7 @@ use edits::{NONE, number_in, smaller};
 use facts::{FACTS, NUMBERS, ROOM, TABLES};
 
 // The least record with two contents, the least with two parents, and the least parent with a torn list; NONE where there is none.
-#[derive(Drop)]
+#[derive(Clone, Copy)]
 pub struct Clashes {
     pub content: u32,
     pub parent: u32,

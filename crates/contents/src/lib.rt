@@ -157,7 +157,7 @@ fn same_in<'a>(
 // ---- edits
 
 // The first branch with an edit there, or 0, which is old; and the sum of all that have one.
-#[derive(Drop)]
+#[derive(Clone, Copy)]
 struct Source {
     table: usize,
     origin: usize,
@@ -234,7 +234,7 @@ pub fn content_place<'a>(
 // ---- the kept content
 
 // Where the kept content of a record lies, and how long it is.
-#[derive(Drop)]
+#[derive(Clone, Copy)]
 pub struct Kept {
     pub place: u32,
     pub length: u32,

@@ -159,7 +159,7 @@ fn print_unread<'a>(names: &[&'a [u8]], t: usize, name: &[u8])
 // ---- what is read
 
 // Whether a file could be read, and how many of its bytes are in its buffer.
-#[derive(Drop)]
+#[derive(Clone, Copy)]
 struct Reading {
     failed: bool,
     length: usize,

@@ -17,7 +17,7 @@ use rules::codes::{
 };
 
 // Code and place of a refusal; or code 0, and how many records the merged table has.
-#[derive(Drop)]
+#[derive(Clone, Copy)]
 pub struct Judged {
     pub code: u32,
     pub place: u32,

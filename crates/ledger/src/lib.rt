@@ -15,7 +15,7 @@ use facts::{FACTS, LENGTH, PLACE, SPAN, TEXTS, field_on, number_on, parent_on};
 use text::LF;
 
 // How long the written table and its ledger are, and how many bytes the contents have.
-#[derive(Drop)]
+#[derive(Clone, Copy)]
 pub struct Sums {
     pub table: usize,
     pub ledger: usize,

@@ -14,7 +14,7 @@ use rules::record::Record;
 use text::{LF, TAB, byte_at, number_at, plain};
 
 // What is told of a line: code 0, number, parent, and the content's start and length in the line; or the code of its fault and zeros.
-#[derive(Drop)]
+#[derive(Clone, Copy)]
 pub struct Line {
     pub code: u32,
     pub number: Record,
@@ -24,14 +24,14 @@ pub struct Line {
 }
 
 // A line, and the place reached by reading it: behind its LF; a faulty line is not passed.
-#[derive(Drop)]
+#[derive(Clone, Copy)]
 pub struct Reached {
     pub line: Line,
     pub at: usize,
 }
 
 // Where the fields of a content end, and whether none of them is empty.
-#[derive(Drop)]
+#[derive(Clone, Copy)]
 struct Fields {
     end: usize,
     filled: bool,
@@ -39,7 +39,7 @@ struct Fields {
 
 // The parts of a line, code 0: the numbers that its first two parts write, where its content starts and ends, and whether all fields
 // of its content are filled; or its fault, code 4 or 5.
-#[derive(Drop)]
+#[derive(Clone, Copy)]
 struct Parts {
     code: u32,
     number: u32,
@@ -309,7 +309,7 @@ pub fn read_at(text: &[u8], at: usize) -> Reached
 }
 
 // A text and the place reached in it.
-#[derive(Drop)]
+#[derive(Clone, Copy)]
 pub struct LineReader<'a> {
     pub text: &'a [u8],
     pub at: usize,

@@ -17,7 +17,7 @@ use facts::{FACTS, NUMBERS, ROOM, TABLES, add_line, column, parent, width};
 use rules::record::Record;
 
 // How many records are laid down, and the least parent whose list is broken, or NONE.
-#[derive(Drop)]
+#[derive(Clone, Copy)]
 pub struct LaidOut {
     pub count: usize,
     pub broken: u32,

@@ -2,7 +2,7 @@
 
 // Check: code, line, count of records, greatest depth.
 #[repr(C)]
-#[derive(Drop)]
+#[derive(Clone, Copy)]
 pub struct Checked {
     pub code: u32,
     pub line: u32,
@@ -12,7 +12,7 @@ pub struct Checked {
 
 // Tidy: code, line, length.
 #[repr(C)]
-#[derive(Drop)]
+#[derive(Clone, Copy)]
 pub struct Tidied {
     pub code: u32,
     pub line: u32,
@@ -21,7 +21,7 @@ pub struct Tidied {
 
 // Content: where the part of the text starts that holds it, and how long it is.
 #[repr(C)]
-#[derive(Drop)]
+#[derive(Clone, Copy)]
 pub struct Part {
     pub start: usize,
     pub length: usize,
@@ -29,7 +29,7 @@ pub struct Part {
 
 // Merge: code, table, place, table length, ledger length.
 #[repr(C)]
-#[derive(Drop)]
+#[derive(Clone, Copy)]
 pub struct Merged {
     pub code: u32,
     pub table: u32,

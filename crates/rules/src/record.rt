@@ -5,7 +5,7 @@ ghost use Rattle.rules.specs.Marks.{TOP, START, END, is_record};
 use crate::limits::GREATEST;
 
 // 32 bits, since the marks stand beside 65,535 numbers.
-#[derive(Drop)]
+#[derive(Clone, Copy)]
 pub struct Record {
     pub number: u32,
 }

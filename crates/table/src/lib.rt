@@ -16,7 +16,7 @@ use rules::limits::{BYTES, LINES};
 use text::{ended, ends, text_of};
 
 // What reading tells: code, line, count of records.
-#[derive(Drop)]
+#[derive(Clone, Copy)]
 pub struct Read {
     pub code: u32,
     pub line: u32,
@@ -24,7 +24,7 @@ pub struct Read {
 }
 
 // The first refused table: code, table, line. All 0 where every table was read.
-#[derive(Drop)]
+#[derive(Clone, Copy)]
 pub struct Refusal {
     pub code: u32,
     pub table: u32,

@@ -3,11 +3,11 @@
 use mathlib.Core.Path.{◌≡◌, refl}
 use mathlib.Core.Bool.{true}
 use mathlib.Core.List.{List, [], ◌∷◌}
-use Prim.Native.Nat.{ℕ, suc, ◌+◌, ◌-◌, ◌<◌, ◌≤◌}
+use Prim.Native.Nat.{ℕ, suc, ◌+◌, ◌-◌, ◌<◌, ◌≤◌, zero-le}
 use native.Mathlib.Omega.{arith}
 use lib.Dec.{eqb}
 use lib.ListN.{length, get_or, drop}
-use borrow.Author.Rules.{rules, zero≤}
+use borrow.Author.Rules.{rules}
 use borrow.Author.Tests.{eq-eqb, ne_eqb}
 use Rattle.rules.specs.Text.{LF, count, last, ended}
 use Rattle.text.proofs.Places.{left-next, left_none}
@@ -36,7 +36,7 @@ pub record Counted (s : List ℕ) (n i : ℕ) : Type 0 where
   pub same : n + count LF (drop i s) ≡ count LF s
 
 pub counted_start : (s : List ℕ) → Counted s 0 0
-counted_start s = record { low = zero≤; few = zero≤; same = omega arith }
+counted_start s = record { low = zero-le; few = zero-le; same = omega arith }
 
 -- m is n behind the test, where its two ways have met
 module _ (s : List ℕ) (n m i : ℕ) (d : Counted s n i) (h : i < length s) where

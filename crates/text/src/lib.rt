@@ -48,7 +48,7 @@ fn plain_rest(s: &[u8], from: usize) -> usize
 }
 
 // The plain bytes from a place on: where they end, and the number that they write.
-#[derive(Drop)]
+#[derive(Clone, Copy)]
 pub struct Number {
     pub end: usize,
     pub value: u32,

@@ -14,7 +14,7 @@ use rules::record::Record;
 use text::text_of;
 
 // Where the next byte goes, and how many records are still unwritten.
-#[derive(Drop)]
+#[derive(Clone, Copy)]
 pub struct Progress {
     pub at: usize,
     pub left: usize,
