@@ -21,11 +21,13 @@ use Rattle.edits.specs.Positions.{fresh, fresh_after, fresh_before, torn, parent
 -- the same answer, or none, is no edit: h tells whether x is answered, g whether old answers y
 no_edit : (h g : Bool) (x y : ℕ) → T (not h || g) → x ≡ y → fresh (cond g y 0) (cond h x 0) ≡ false
 no_edit false g x y p e = refl
+no_edit true false x y p e = elim p [ ]
 no_edit true true x y p e = ap (λ (b : Bool). ltb 0 x && not b) (eq-eqb x y e) ∙ and-false (ltb 0 x)
 
 -- whoever has it as a child has it in old, if the parent is one
 still_child : (h g b c : Bool) → T (not h || g) → b ≡ c → T (not (h && b) || (g && c))
 still_child false g b c p e = tt
+still_child true false b c p e = elim p [ ]
 still_child true true true c p e = subst (λ (z : Bool). T z) e tt
 still_child true true false c p e = tt
 

@@ -1,0 +1,31 @@
+-- The proof of `forerunner`: what is left to prove is found among the laws of Asking. Assumes nothing.
+use Rattle.facts.proofs.Asking.{asks}
+use borrow.Author.Rules.{rules}
+use Rattle.facts.proofs.forerunner.Goals as goal
+
+pub is_end-requires : goal.is_end-requires
+is_end-requires c = search rules
+
+pub list-requires : goal.list-requires
+list-requires c = search rules
+
+pub record_in-requires : goal.record_in-requires
+record_in-requires c = search rules
+
+pub returns-then-list : goal.returns-then-list
+returns-then-list c = search asks
+
+pub returns-then-is_end : goal.returns-then-is_end
+returns-then-is_end c = search asks
+
+pub child-requires : goal.child-requires
+child-requires c = search rules
+
+pub record_in-requires-then-child : goal.record_in-requires-then-child
+record_in-requires-then-child c = search rules
+
+pub returns-then-child : goal.returns-then-child
+returns-then-child c = search asks
+
+pub returns : goal.returns
+returns c = search asks

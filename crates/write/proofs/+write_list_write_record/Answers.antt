@@ -1,0 +1,26 @@
+use Rattle.write.proofs.Turns.{lists, records}
+use Rattle.write.proofs.+write_list_write_record.Goals as goal
+
+pub write_list-loop-r-init : goal.write_list-loop-r-init
+write_list-loop-r-init t c = search lists
+
+pub write_list-write_record-q-requires : goal.write_list-write_record-q-requires
+write_list-write_record-q-requires t c = search lists
+
+pub write_list-loop-r-smaller : goal.write_list-loop-r-smaller
+write_list-loop-r-smaller t c = search lists
+
+pub write_list-loop-r-preserved : goal.write_list-loop-r-preserved
+write_list-loop-r-preserved t c = search lists
+
+pub write_list-returns : goal.write_list-returns
+write_list-returns t c = search lists
+
+pub write_record-returns-then-is_end : goal.write_record-returns-then-is_end
+write_record-returns-then-is_end t c = search records
+
+pub write_record-write_list-requires : goal.write_record-write_list-requires
+write_record-write_list-requires t c = search records
+
+pub write_record-returns : goal.write_record-returns
+write_record-returns t c = search records
