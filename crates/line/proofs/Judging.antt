@@ -17,7 +17,7 @@ use Rattle.rules.specs.Lists.{every}
 use Rattle.rules.specs.Marks.{is_record}
 use Rattle.rules.specs.Line.{number_part, parent_part, content_part, number_ok, parent_ok, line_fault}
 use Rattle.rules.specs.declared.record.Record.{Record}
-use Rattle.rules.specs.Text.{TAB, LF, allowed, count, before, decimal, value, filled, content_ok}
+use Rattle.rules.specs.Text.{TAB, LF, allowed, count, before, decimal, value, content_ok}
 use Rattle.readback.proofs.Splitting.{before-left}
 use Rattle.text.specs.Reads.{NONE, number_in}
 use Rattle.text.proofs.Places.{part-from, left_none}

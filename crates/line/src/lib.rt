@@ -309,7 +309,7 @@ pub fn read_at(text: &[u8], at: usize) -> Reached
 }
 
 // A text and the place reached in it.
-#[derive(Clone, Copy)]
+#[derive(Drop)]
 pub struct LineReader<'a> {
     pub text: &'a [u8],
     pub at: usize,

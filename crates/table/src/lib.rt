@@ -3,7 +3,7 @@
 #![tactic(auto)]
 
 ghost use Rattle.std.specs.Prelude.{◌≡◌, map, ℕ, ◌<◌, length};
-ghost use Rattle.facts.specs.Memory.{TABLES, no_lines, no_facts};
+ghost use Rattle.facts.specs.Memory.{TABLES as tables_of_memory, no_lines, no_facts};
 ghost use Rattle.table.specs.Read.{told, fault_in, Begins, Reads, Unread, Fills};
 ghost use Rattle.table.specs.All.{ReadsAll};
 
@@ -110,7 +110,7 @@ pub fn read_table(text: &[u8], lines: &mut [u16; NUMBERS], facts: &mut [u32; FAC
 
 // What the types of the lent arrays say of their lengths. It does nothing when it runs.
 fn side_by_side(lines: &[[u16; NUMBERS]; TABLES], facts: &[[u32; FACTS]; TABLES])
-    ensures { (length lines.now ≡ TABLES) × (length facts.now ≡ TABLES) }
+    ensures { (length lines.now ≡ tables_of_memory) × (length facts.now ≡ tables_of_memory) }
 {
     let s = &lines[..];
     let u = &facts[..];
@@ -132,7 +132,7 @@ pub fn read_into(
 
 // What the type of the lent counts says of their number. It does nothing when it runs.
 fn one_each(counts: &[usize; TABLES])
-    ensures { length counts.now ≡ TABLES }
+    ensures { length counts.now ≡ tables_of_memory }
 {
     let s = &counts[..];
 }
@@ -144,7 +144,7 @@ pub fn read_all<'a>(
     facts: &mut [[u32; FACTS]; TABLES],
     counts: &mut [usize; TABLES],
 ) -> Refusal
-    requires { (length texts.now ≡ TABLES) × ((t : ℕ) → t < TABLES → Unread lines.old facts.old t) }
+    requires { (length texts.now ≡ tables_of_memory) × ((t : ℕ) → t < tables_of_memory → Unread lines.old facts.old t) }
     ensures { ReadsAll (map (λ x. x.now) texts.now) lines.new facts.new counts.new result }
 {
     one_each(counts);
