@@ -107,7 +107,8 @@ pub fn least_clashes<'a>(
     marks: &[[u8; ROOM]; TABLES],
     counts: &[usize; TABLES],
 ) -> Clashes
-    requires by_index { ((k : ℕ) → k < tables_of_memory → get_or counts.now k 0 < room_of_memory) × (length texts.now ≡ tables_of_memory) }
+    requires by_index { ((k : ℕ) → k < tables_of_memory → get_or counts.now k 0 < room_of_memory)
+        × (length texts.now ≡ tables_of_memory) }
     requires lined { Lined lines.now facts.now counts.now }
     requires marked { Marked (map (λ x. x.now) texts.now) lines.now facts.now counts.now marks.now }
     ensures { result ≡ all_clashes (map (λ x. x.now) texts.now) lines.now facts.now counts.now }

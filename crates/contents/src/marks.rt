@@ -130,7 +130,8 @@ pub fn mark_branches<'a>(
     counts: &[usize; TABLES],
     marks: &mut [[u8; ROOM]; TABLES],
 )
-    requires by_index { ((k : ℕ) → k < tables_of_memory → get_or counts.now k 0 < room_of_memory) × (length texts.now ≡ tables_of_memory) }
+    requires by_index { ((k : ℕ) → k < tables_of_memory → get_or counts.now k 0 < room_of_memory)
+        × (length texts.now ≡ tables_of_memory) }
     requires lined { Lined lines.now facts.now counts.now }
     ensures marked { Marked (map (λ x. x.now) texts.now) lines.now facts.now counts.now marks.new }
     ensures noted { Noted (map (λ x. x.now) texts.now) lines.now facts.now marks.new }

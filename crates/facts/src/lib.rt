@@ -56,7 +56,8 @@ pub const LENGTH: usize = 7;
 
 // These three tie the constants to the definitions of the same names.
 pub fn shape() -> [usize; 5]
-    ensures { result ≡ numbers_of_memory ∷ room_of_memory ∷ width_of_memory ∷ (room_of_memory * width_of_memory) ∷ tables_of_memory ∷ [] }
+    ensures { result ≡ numbers_of_memory ∷ room_of_memory ∷ width_of_memory ∷ (room_of_memory * width_of_memory)
+        ∷ tables_of_memory ∷ [] }
 {
     [NUMBERS, ROOM, WIDTH, FACTS, TABLES]
 }

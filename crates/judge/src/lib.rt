@@ -63,7 +63,8 @@ pub fn judge<'a>(
     ls: &mut [u16; NUMBERS],
     fs: &mut [u32; FACTS],
 ) -> Judged
-    requires by_index { ((k : ℕ) → k < tables_of_memory → get_or counts.now k 0 < room_of_memory) × (length texts.now ≡ tables_of_memory) }
+    requires by_index { ((k : ℕ) → k < tables_of_memory → get_or counts.now k 0 < room_of_memory)
+        × (length texts.now ≡ tables_of_memory) }
     requires ls_value { (ls.old ≡ no_lines) × (fs.old ≡ no_facts) }
     requires lined { Lined lines.now facts.now counts.now }
     requires marked { Marked (map (λ x. x.now) texts.now) lines.now facts.now counts.now marks.now }
