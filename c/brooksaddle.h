@@ -1,8 +1,8 @@
 /*
  * brooksaddle: a proved three-way merge of flight-procedure tables.
  *
- * The calls of libbrooksaddle.a, which is for 64-bit x86-64 with the System V convention. docs/document-01.md has the rules that
- * every answer follows, docs/PROMISES.md what is proved of each call.
+ * The calls of libbrooksaddle.a, which is for 64-bit x86-64 of level v2 (SSE4.2 and popcnt) with the System V convention.
+ * docs/document-01.md has the rules that every answer follows, docs/PROMISES.md what is proved of each call.
  *
  * Every call takes any bytes and always answers. What the proof takes for granted of a caller in C is this:
  *
@@ -10,9 +10,9 @@
  *   says, which may be written. No pointer is NULL, not even one to no bytes. Bytes need no alignment.
  * - No buffer overlaps a text or the other buffer. Texts are only read, so they may overlap, or be one.
  * - Nobody else writes to them during the call. The library itself only reads the texts.
- * - The stack has room. On x86-64 a call on one table takes 167 KB of it, tidy up to 304 KB (for 512 records, each below the last), and
- *   merge 660 to 799 KB; on Arm 170 KB, 255 KB and 660 to 750 KB. docs/PROMISES.md says how that was measured. A call that runs out of
- *   stack is stopped by the system, so a thread with a small one is no place for it.
+ * - The stack has room. A call on one table takes 167 KB of it, tidy up to 304 KB (for 512 records, each below the last), and merge 660
+ *   to 799 KB. docs/PROMISES.md says how that was measured. A call that runs out of stack is stopped by the system, so a thread with a
+ *   small one is no place for it.
  *
  * No call borrows other memory, keeps a pointer after it has answered, or holds anything from one call to the next: calls may be made
  * from several threads at once.
@@ -23,8 +23,8 @@
 #include <stddef.h>
 #include <stdint.h>
 
-#if defined(_WIN32) || defined(__ILP32__)
-#error "libbrooksaddle.a follows the System V convention of 64-bit machines"
+#if !defined(__x86_64__) || defined(_WIN32) || defined(__ILP32__)
+#error "libbrooksaddle.a is for 64-bit x86-64 with the System V convention"
 #endif
 
 #ifdef __cplusplus
@@ -138,11 +138,6 @@ struct brooksaddle_part brooksaddle_content(const uint8_t *text, size_t length, 
 
 #ifdef __cplusplus
 }
-#endif
-
-/* The project's tests run on other machines too. */
-#ifndef __x86_64__
-#include "other_machines.h"
 #endif
 
 #endif

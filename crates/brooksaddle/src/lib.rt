@@ -1,4 +1,4 @@
-// The public calls, and their exports to C: libbrooksaddle.a. Each takes any bytes; none asks anything of its caller.
+// The public calls; `brooksaddle_c` exports them to C. Each takes any bytes; none asks anything of its caller.
 #![tactic(auto)]
 
 ghost use Rattle.std.specs.Prelude.{◌≡◌};
@@ -42,13 +42,6 @@ pub fn check(text: &[u8]) -> Checked
     }
 }
 
-#[unsafe(no_mangle)]
-pub extern "C" fn brooksaddle_check(text: &[u8]) -> Checked
-    ensures { Checks text.now result }
-{
-    check(text)
-}
-
 // ---- tidy
 
 // One table in written form, in the lent buffer: code, line, length. The same lines in another order are as long as the text, so the
@@ -84,13 +77,6 @@ pub fn tidy(text: &[u8], buffer: &mut [u8]) -> Tidied
     }
 }
 
-#[unsafe(no_mangle)]
-pub extern "C" fn brooksaddle_tidy(text: &[u8], buffer: &mut [u8]) -> Tidied
-    ensures { Tidies text.now buffer.old result buffer.new }
-{
-    tidy(text, buffer)
-}
-
 // ---- merge
 
 // Old, first and second, merged into the two lent buffers: code, table, place, table length, ledger length.
@@ -114,20 +100,6 @@ pub fn merge<'a>(
         return refused(code, read.table, read.line);
     }
     merge_tables(&texts[..], &lines, &facts, &counts, table, ledger)
-}
-
-#[unsafe(no_mangle)]
-pub extern "C" fn brooksaddle_merge<'a>(
-    old: &'a [u8],
-    first: &'a [u8],
-    second: &'a [u8],
-    table: &mut [u8],
-    ledger: &mut [u8],
-) -> Merged
-    ensures { Merges old.now first.now second.now table.old ledger.old
-        result table.new ledger.new }
-{
-    merge(old, first, second, table, ledger)
 }
 
 // ---- content
@@ -168,12 +140,4 @@ pub fn content(text: &[u8], number: u32) -> &[u8]
     let start = part.start;
     let end = start + part.length;
     &text[start..end]
-}
-
-// An export cannot hand back a reference, so this one tells where the part lies.
-#[unsafe(no_mangle)]
-pub extern "C" fn brooksaddle_content(text: &[u8], number: u32) -> Part
-    ensures { result ≡ content_answer text.now number }
-{
-    content_part(text, number)
 }

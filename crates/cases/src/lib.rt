@@ -3,9 +3,11 @@
 #![tactic(auto)]
 
 ghost use Rattle.std.specs.Prelude.{◌≤◌, length};
-ghost use Rattle.io.specs.Counts.{IsPrefixLen};
+ghost use Rattle.std.specs.Counts.{IsPrefixLen};
+ghost use Rattle.std.specs.Io.{ReadsAtMost};
 
-use libc::STDOUT_FILENO;
+use std::io;
+use std::io::Read;
 
 const END_OF_PART: u8 = 255;
 
@@ -33,15 +35,31 @@ pub fn part_end(cases: &[u8], at: usize) -> usize
     end
 }
 
-// A number, and what ends it.
-pub fn print(n: u64, end: &[u8]) {
-    io::print_decimal(STDOUT_FILENO, n);
-    io::write_all(STDOUT_FILENO, end);
+// Reads standard input until the buffer is full or the input ends: so many bytes lie at the buffer's start.
+pub fn read_full<R: Input>(rt: &R, buffer: &mut [u8]) -> io::Result<usize>
+    ensures { ReadsAtMost result buffer.new }
+{
+    let mut reader = rt.reader();
+    let mut done = 0;
+    while done < buffer.len() {
+        let n = reader.read(&mut buffer[done..])?;
+        if n == 0 {
+            break;
+        }
+        done += n;
+    }
+    Ok(done)
 }
 
-pub fn print_line(bytes: &[u8]) {
-    io::write_all(STDOUT_FILENO, bytes);
-    io::write_all(STDOUT_FILENO, b"\n");
+// A number, and what ends it.
+pub fn print<R: Print>(rt: &R, n: u64, end: &[u8]) -> io::Result<()> {
+    rt.print(n)?;
+    rt.write_all(end)
+}
+
+pub fn print_line<R: Print>(rt: &R, bytes: &[u8]) -> io::Result<()> {
+    rt.write_all(bytes)?;
+    rt.write_all(b"\n")
 }
 
 // So many bytes of a buffer, or all if it has fewer: no length that is told is trusted.
@@ -55,10 +73,10 @@ pub fn fitting(n: usize, buffer: &[u8]) -> usize
 }
 
 // The bytes that were written to a buffer, and two more.
-pub fn print_written(buffer: &[u8], length: usize) {
+pub fn print_written<R: Print>(rt: &R, buffer: &[u8], length: usize) -> io::Result<()> {
     let written = fitting(length, buffer);
     let shown = fitting(written + SHOWN_PAST, buffer);
-    print_line(&buffer[..shown]);
+    print_line(rt, &buffer[..shown])
 }
 
 // 0 for equal bytes, otherwise 1.

@@ -4,33 +4,34 @@
 #![tactic(auto)]
 
 use brooksaddle::{check, content};
-use cases::{part_end, print, print_line};
-use libc::STDIN_FILENO;
+use cases::{part_end, print, print_line, read_full};
+use std::io;
 
 const ROOM: usize = 131072;
 
-fn tell(text: &[u8]) {
+fn tell<R: Print>(rt: &R, text: &[u8]) -> io::Result<()> {
     let answer = check(text);
-    print(answer.code as u64, b"\t");
-    print(answer.line as u64, b"\t");
-    print(answer.count as u64, b"\t");
-    print(answer.depth as u64, b"\n");
-    print_line(content(text, 1));
-    print_line(content(text, 65535));
-    print_line(content(text, 65536));
+    print(rt, answer.code as u64, b"\t")?;
+    print(rt, answer.line as u64, b"\t")?;
+    print(rt, answer.count as u64, b"\t")?;
+    print(rt, answer.depth as u64, b"\n")?;
+    print_line(rt, content(text, 1))?;
+    print_line(rt, content(text, 65535))?;
+    print_line(rt, content(text, 65536))
 }
 
-fn tell_all(cases: &[u8]) {
+fn tell_all<R: Print>(rt: &R, cases: &[u8]) -> io::Result<()> {
     let mut at = 0;
     while at < cases.len() {
         let end = part_end(cases, at);
-        tell(&cases[at..end]);
+        tell(rt, &cases[at..end])?;
         at = end + 1;
     }
+    Ok(())
 }
 
-fn main() {
+fn main(rt: HostRuntime) -> io::Result<()> {
     let mut cases = [0u8; ROOM];
-    let n = io::read_full(STDIN_FILENO, &mut cases);
-    tell_all(&cases[..n]);
+    let n = read_full(&rt, &mut cases)?;
+    tell_all(&rt, &cases[..n])
 }

@@ -6,36 +6,38 @@
 // before the call. Below the line of the first call, if it is accepted, stand the bytes that it wrote to each buffer, and two more of each.
 #![tactic(auto)]
 
-ghost use Rattle.std.specs.Prelude.{◌≤◌, length};
+ghost use Rattle.std.specs.Prelude.{◌≤◌, IfOk, length};
 
 use brooksaddle::merge;
-use cases::{FILLER, ROOM, differing, fitting, part_end, print, print_written};
-use libc::{STDIN_FILENO, STDOUT_FILENO};
+use cases::{FILLER, ROOM, differing, fitting, part_end, print, print_written, read_full};
 use rules::answers::Merged;
 use rules::codes::ACCEPTED;
+use std::io;
 
 // Holds all cases.
 const CASES: usize = 393216;
 
 // The line of a call: its five numbers, and for each buffer how many of its bytes are not as expected.
-fn print_answer(
+fn print_answer<R: Print>(
+    rt: &R,
     answer: Merged,
     table: &[u8; ROOM],
     ledger: &[u8; ROOM],
     expected_table: &[u8; ROOM],
     expected_ledger: &[u8; ROOM],
-) {
-    print(answer.code as u64, b"\t");
-    print(answer.table as u64, b"\t");
-    print(answer.place as u64, b"\t");
-    print(answer.table_length as u64, b"\t");
-    print(answer.ledger_length as u64, b"\t");
-    print(differing(table, expected_table), b"\t");
-    print(differing(ledger, expected_ledger), b"\n");
+) -> io::Result<()> {
+    print(rt, answer.code as u64, b"\t")?;
+    print(rt, answer.table as u64, b"\t")?;
+    print(rt, answer.place as u64, b"\t")?;
+    print(rt, answer.table_length as u64, b"\t")?;
+    print(rt, answer.ledger_length as u64, b"\t")?;
+    print(rt, differing(table, expected_table), b"\t")?;
+    print(rt, differing(ledger, expected_ledger), b"\n")
 }
 
 // A call that is lent so many bytes of each buffer.
-fn tell_in<'a>(
+fn tell_in<'a, R: Print>(
+    rt: &R,
     old: &'a [u8],
     first: &'a [u8],
     second: &'a [u8],
@@ -43,7 +45,7 @@ fn tell_in<'a>(
     ledger_room: usize,
     expected_table: &[u8; ROOM],
     expected_ledger: &[u8; ROOM],
-) {
+) -> io::Result<()> {
     let mut table = [FILLER; ROOM];
     let mut ledger = [FILLER; ROOM];
     let table_end = fitting(table_room, &table);
@@ -55,19 +57,21 @@ fn tell_in<'a>(
         &mut table[..table_end],
         &mut ledger[..ledger_end],
     );
-    print_answer(answer, &table, &ledger, expected_table, expected_ledger);
+    print_answer(rt, answer, &table, &ledger, expected_table, expected_ledger)
 }
 
 // A call that is lent too little, and is to leave both buffers as they were.
-fn tell_lacking<'a>(
+fn tell_lacking<'a, R: Print>(
+    rt: &R,
     old: &'a [u8],
     first: &'a [u8],
     second: &'a [u8],
     table_room: usize,
     ledger_room: usize,
-) {
+) -> io::Result<()> {
     let filled = [FILLER; ROOM];
     tell_in(
+        rt,
         old,
         first,
         second,
@@ -75,29 +79,31 @@ fn tell_lacking<'a>(
         ledger_room,
         &filled,
         &filled,
-    );
+    )
 }
 
 // The calls that lack a byte: none for a refused merge, whose lengths are 0, and none for an empty table. A ledger is never empty.
-fn tell_short<'a>(
+fn tell_short<'a, R: Print>(
+    rt: &R,
     old: &'a [u8],
     first: &'a [u8],
     second: &'a [u8],
     table_length: usize,
     ledger_length: usize,
-) {
+) -> io::Result<()> {
     if 0 < ledger_length {
         let ledger_short = ledger_length - 1;
         if 0 < table_length {
             let table_short = table_length - 1;
-            tell_lacking(old, first, second, table_short, ledger_length);
-            tell_lacking(old, first, second, table_short, ledger_short);
+            tell_lacking(rt, old, first, second, table_short, ledger_length)?;
+            tell_lacking(rt, old, first, second, table_short, ledger_short)?;
         }
-        tell_lacking(old, first, second, table_length, ledger_short);
+        tell_lacking(rt, old, first, second, table_length, ledger_short)?;
     }
+    Ok(())
 }
 
-fn tell<'a>(old: &'a [u8], first: &'a [u8], second: &'a [u8]) {
+fn tell<'a, R: Print>(rt: &R, old: &'a [u8], first: &'a [u8], second: &'a [u8]) -> io::Result<()> {
     let filled = [FILLER; ROOM];
     let mut table = [FILLER; ROOM];
     let mut ledger = [FILLER; ROOM];
@@ -105,12 +111,13 @@ fn tell<'a>(old: &'a [u8], first: &'a [u8], second: &'a [u8]) {
     let code = answer.code;
     let table_length = answer.table_length;
     let ledger_length = answer.ledger_length;
-    print_answer(answer, &table, &ledger, &filled, &filled);
+    print_answer(rt, answer, &table, &ledger, &filled, &filled)?;
     if code == ACCEPTED {
-        print_written(&table, table_length);
-        print_written(&ledger, ledger_length);
+        print_written(rt, &table, table_length)?;
+        print_written(rt, &ledger, ledger_length)?;
     }
     tell_in(
+        rt,
         old,
         first,
         second,
@@ -118,8 +125,8 @@ fn tell<'a>(old: &'a [u8], first: &'a [u8], second: &'a [u8]) {
         ledger_length,
         &table,
         &ledger,
-    );
-    tell_short(old, first, second, table_length, ledger_length);
+    )?;
+    tell_short(rt, old, first, second, table_length, ledger_length)
 }
 
 // Where the part behind an end starts.
@@ -134,9 +141,9 @@ fn start_behind(cases: &[u8], end: usize) -> usize
 }
 
 // The case whose tables start at a place: where it ends.
-fn tell_tables(cases: &[u8], at: usize) -> usize
+fn tell_tables<R: Print>(rt: &R, cases: &[u8], at: usize) -> io::Result<usize>
     requires { at ≤ length cases.now }
-    ensures { (at ≤ result) × (result ≤ length cases.now) }
+    ensures { IfOk result (λ end. (at ≤ end) × (end ≤ length cases.now)) }
 {
     let old = part_end(cases, at);
     let first_start = start_behind(cases, old);
@@ -144,24 +151,26 @@ fn tell_tables(cases: &[u8], at: usize) -> usize
     let second_start = start_behind(cases, first);
     let second = part_end(cases, second_start);
     tell(
+        rt,
         &cases[at..old],
         &cases[first_start..first],
         &cases[second_start..second],
-    );
-    second
+    )?;
+    Ok(second)
 }
 
-fn tell_all(cases: &[u8]) {
+fn tell_all<R: Print>(rt: &R, cases: &[u8]) -> io::Result<()> {
     let mut at = 0;
     while at < cases.len() {
         let end = part_end(cases, at);
-        io::write_all(STDOUT_FILENO, &cases[at..end]);
-        at = tell_tables(cases, start_behind(cases, end)) + 1;
+        rt.write_all(&cases[at..end])?;
+        at = tell_tables(rt, cases, start_behind(cases, end))? + 1;
     }
+    Ok(())
 }
 
-fn main() {
+fn main(rt: HostRuntime) -> io::Result<()> {
     let mut cases = [0u8; CASES];
-    let n = io::read_full(STDIN_FILENO, &mut cases);
-    tell_all(&cases[..n]);
+    let n = read_full(&rt, &mut cases)?;
+    tell_all(&rt, &cases[..n])
 }

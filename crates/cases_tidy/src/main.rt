@@ -6,52 +6,54 @@
 #![tactic(auto)]
 
 use brooksaddle::tidy;
-use cases::{FILLER, ROOM, differing, fitting, part_end, print, print_written};
-use libc::STDIN_FILENO;
+use cases::{FILLER, ROOM, differing, fitting, part_end, print, print_written, read_full};
 use rules::answers::Tidied;
+use std::io;
 
 // Holds all cases.
 const CASES: usize = 262144;
 
-fn print_answer(answer: Tidied, differing: u64) {
-    print(answer.code as u64, b"\t");
-    print(answer.line as u64, b"\t");
-    print(answer.length as u64, b"\t");
-    print(differing, b"\n");
+fn print_answer<R: Print>(rt: &R, answer: Tidied, differing: u64) -> io::Result<()> {
+    print(rt, answer.code as u64, b"\t")?;
+    print(rt, answer.line as u64, b"\t")?;
+    print(rt, answer.length as u64, b"\t")?;
+    print(rt, differing, b"\n")
 }
 
 // A call that is lent so many bytes of a buffer.
-fn tell_in(text: &[u8], room: usize, expected: &[u8; ROOM]) {
+fn tell_in<R: Print>(rt: &R, text: &[u8], room: usize, expected: &[u8; ROOM]) -> io::Result<()> {
     let mut buffer = [FILLER; ROOM];
     let end = fitting(room, &buffer);
     let answer = tidy(text, &mut buffer[..end]);
-    print_answer(answer, differing(&buffer, expected));
+    print_answer(rt, answer, differing(&buffer, expected))
 }
 
-fn tell(text: &[u8]) {
+fn tell<R: Print>(rt: &R, text: &[u8]) -> io::Result<()> {
     let filled = [FILLER; ROOM];
     let mut buffer = [FILLER; ROOM];
     let answer = tidy(text, &mut buffer);
     let length = answer.length;
-    print_answer(answer, differing(&buffer, &filled));
-    print_written(&buffer, length);
-    tell_in(text, length, &buffer);
+    print_answer(rt, answer, differing(&buffer, &filled))?;
+    print_written(rt, &buffer, length)?;
+    tell_in(rt, text, length, &buffer)?;
     if 0 < length {
-        tell_in(text, length - 1, &filled);
+        tell_in(rt, text, length - 1, &filled)?;
     }
+    Ok(())
 }
 
-fn tell_all(cases: &[u8]) {
+fn tell_all<R: Print>(rt: &R, cases: &[u8]) -> io::Result<()> {
     let mut at = 0;
     while at < cases.len() {
         let end = part_end(cases, at);
-        tell(&cases[at..end]);
+        tell(rt, &cases[at..end])?;
         at = end + 1;
     }
+    Ok(())
 }
 
-fn main() {
+fn main(rt: HostRuntime) -> io::Result<()> {
     let mut cases = [0u8; CASES];
-    let n = io::read_full(STDIN_FILENO, &mut cases);
-    tell_all(&cases[..n]);
+    let n = read_full(&rt, &mut cases)?;
+    tell_all(&rt, &cases[..n])
 }

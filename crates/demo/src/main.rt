@@ -3,7 +3,8 @@
 #![tactic(auto)]
 
 use demonstration::demonstrate;
+use std::io;
 
-fn main() {
-    demonstrate(b"old.txt", b"first.txt", b"second.txt");
+fn main(rt: HostRuntime) -> io::Result<()> {
+    demonstrate(&rt, b"old.txt", b"first.txt", b"second.txt")
 }

@@ -2,19 +2,20 @@
 #![tactic(auto)]
 
 use demonstration::demonstrate;
+use std::io;
 
-fn main() {
+fn main(rt: HostRuntime) -> io::Result<()> {
     // The file that can't be opened is told, and nothing else.
-    demonstrate(b"table.txt", b"missing.txt", b"table.txt");
+    demonstrate(&rt, b"table.txt", b"missing.txt", b"table.txt")?;
     // It is told before any table is judged,
-    demonstrate(b"damaged.txt", b"table.txt", b"missing.txt");
+    demonstrate(&rt, b"damaged.txt", b"table.txt", b"missing.txt")?;
     // and the first of two is. A folder opens, and can't be read.
-    demonstrate(b"folder", b"missing.txt", b"table.txt");
-    demonstrate(b"table.txt", b"table.txt", b"folder");
+    demonstrate(&rt, b"folder", b"missing.txt", b"table.txt")?;
+    demonstrate(&rt, b"table.txt", b"table.txt", b"folder")?;
     // On refusal the line stands alone.
-    demonstrate(b"damaged.txt", b"table.txt", b"table.txt");
+    demonstrate(&rt, b"damaged.txt", b"table.txt", b"table.txt")?;
     // Of a file of 40,000 bytes no more is read than shows that it is too long.
-    demonstrate(b"long.txt", b"table.txt", b"table.txt");
-    demonstrate(b"table.txt", b"table.txt", b"long.txt");
-    demonstrate(b"empty.txt", b"empty.txt", b"empty.txt");
+    demonstrate(&rt, b"long.txt", b"table.txt", b"table.txt")?;
+    demonstrate(&rt, b"table.txt", b"table.txt", b"long.txt")?;
+    demonstrate(&rt, b"empty.txt", b"empty.txt", b"empty.txt")
 }

@@ -1,7 +1,7 @@
 -- The three files of the demonstration: old, first and second, each with a buffer of its own and the count of bytes that were read into
 -- it. t is a file. Assumes nothing.
 use Rattle.std.specs.Prelude.{◌≡◌, List, [], ℕ, ◌<◌, get_or, set, take}
-use Rattle.io.specs.Counts.{IsPrefixLen}
+use Rattle.std.specs.Counts.{IsPrefixLen}
 use Rattle.demonstration.specs.Printed.{printed}
 
 -- "`old.txt`, `first.txt`, `second.txt`"

@@ -1,9 +1,9 @@
-// Document 01's demonstration: three files are read, their tables merged, and the answer printed. No contract can say what a call of C
+// Document 01's demonstration: three files are read, their tables merged, and the answer printed. No contract can say what the system
 // reads or writes; so what is printed of three texts is put into one buffer first, by `show`, whose contract says every byte of it.
 #![tactic(auto)]
 
 ghost use Rattle.std.specs.Prelude.{◌≡◌, [], ◌∷◌, ◌++◌, map, ◌+◌, ◌<◌, ◌≤◌, length, get_or, take};
-ghost use Rattle.io.specs.Counts.{IsPrefixLen};
+ghost use Rattle.std.specs.Counts.{IsPrefixLen};
 ghost use Rattle.bytes_out.specs.Put.{Put};
 ghost use Rattle.rules.specs.Calls.{five_numbers};
 ghost use Rattle.demonstration.specs.Printed.{table_room, ledger_room, printed_room, numbers_length, Shows};
@@ -12,9 +12,13 @@ ghost use Rattle.demonstration.specs.Files.{files, most_read, text_in, printed_o
 use brooksaddle::merge;
 use bytes_out::{copy, write_field};
 use ledger::write_end;
-use libc::STDOUT_FILENO;
 use rules::answers::Merged;
 use rules::codes::ACCEPTED;
+use std::fs;
+use std::io;
+use std::io::{ErrorKind, Read};
+use std::rt::Files;
+use std::str;
 use text::text_of;
 
 // So many files are read: old, first and second.
@@ -128,13 +132,22 @@ fn text_in<'a>(
 }
 
 // Hands over what is printed of three texts, and nothing else: the part must be just that.
-fn hand_over(buffers: &[[u8; MOST_READ]; FILES], lengths: &[usize; FILES], part: &[u8])
+fn hand_over<R: Print>(
+    rt: &R,
+    buffers: &[[u8; MOST_READ]; FILES],
+    lengths: &[usize; FILES],
+    part: &[u8],
+) -> io::Result<()>
     requires { part.now ≡ printed_of buffers.now lengths.now }
 {
-    io::write_all(STDOUT_FILENO, part);
+    rt.write_all(part)
 }
 
-fn print_merged(buffers: &[[u8; MOST_READ]; FILES], lengths: &[usize; FILES])
+fn print_merged<R: Print>(
+    rt: &R,
+    buffers: &[[u8; MOST_READ]; FILES],
+    lengths: &[usize; FILES],
+) -> io::Result<()>
     requires { ReadTo buffers.now lengths.now files }
 {
     let old = text_in(buffers, lengths, 0);
@@ -144,16 +157,16 @@ fn print_merged(buffers: &[[u8; MOST_READ]; FILES], lengths: &[usize; FILES])
     let mut ledger = [0u8; LEDGER_ROOM];
     let mut out = [0u8; PRINTED_ROOM];
     let n = show(old, first, second, &mut table, &mut ledger, &mut out);
-    hand_over(buffers, lengths, &out[..n]);
+    hand_over(rt, buffers, lengths, &out[..n])
 }
 
 // Tells the file that can't be read: the name must be its own.
-fn print_unread<'a>(names: &[&'a [u8]], t: usize, name: &[u8])
+fn print_unread<'a, R: Print>(rt: &R, names: &[&'a [u8]], t: usize, name: &[u8]) -> io::Result<()>
     requires { name.now ≡ get_or (map (λ x. x.now) names.now) t [] }
 {
-    io::write_all(STDOUT_FILENO, b"file\t");
-    io::write_all(STDOUT_FILENO, name);
-    io::write_all(STDOUT_FILENO, b"\n");
+    rt.write_all(b"file\t")?;
+    rt.write_all(name)?;
+    rt.write_all(b"\n")
 }
 
 // ---- what is read
@@ -166,19 +179,17 @@ struct Reading {
 }
 
 // Reads until the buffer is full or the file ends.
-fn read_open(fd: i32, buffer: &mut [u8]) -> Reading
+fn read_open<F: Read>(file: &mut F, buffer: &mut [u8]) -> Reading
     ensures { IsPrefixLen result.length buffer.new }
 {
     let mut length = 0;
     while length < buffer.len() {
-        let got = libc::read(fd, &mut buffer[length..]);
-        if got < 0 {
+        let Ok(more) = file.read(&mut buffer[length..]) else {
             return Reading {
                 failed: true,
                 length,
             };
-        }
-        let more = io::count(got, &buffer[length..]);
+        };
         if more == 0 {
             break;
         }
@@ -190,24 +201,30 @@ fn read_open(fd: i32, buffer: &mut [u8]) -> Reading
     }
 }
 
+// The file of a name; std opens none whose name is not UTF-8.
+fn open_read<R: Files>(rt: &R, name: &[u8]) -> io::Result<R::File> {
+    let Ok(path) = str::from_utf8(name) else {
+        return Err(io::Error::from(ErrorKind::InvalidInput));
+    };
+    fs::open(rt, path)
+}
+
 // A folder can be opened, and not be read.
-fn read_file(name: &[u8], buffer: &mut [u8; MOST_READ]) -> Reading
+fn read_file<R: Files>(rt: &R, name: &[u8], buffer: &mut [u8; MOST_READ]) -> Reading
     ensures { IsPrefixLen result.length buffer.new }
 {
-    let fd = os::open_read(name);
-    if fd < 0 {
+    let Ok(mut file) = open_read(rt, name) else {
         return Reading {
             failed: true,
             length: 0,
         };
-    }
-    let reading = read_open(fd, &mut buffer[..]);
-    libc::close(fd);
-    reading
+    };
+    read_open(&mut file, &mut buffer[..])
 }
 
 // Reads file number `t`, whose name it must be, into its own buffer; the others stay.
-fn read_named<'a>(
+fn read_named<'a, R: Files>(
+    rt: &R,
     names: &[&'a [u8]],
     t: usize,
     name: &[u8],
@@ -217,11 +234,12 @@ fn read_named<'a>(
     ensures { Filled buffers.old t result.length buffers.new }
 {
     shape(buffers);
-    read_file(name, &mut buffers[t])
+    read_file(rt, name, &mut buffers[t])
 }
 
 // Reads the files in order, and stops at the first that can't be read: its number is told, or how many there are.
-fn read_files<'a>(
+fn read_files<'a, R: Files>(
+    rt: &R,
     names: &[&'a [u8]],
     buffers: &mut [[u8; MOST_READ]; FILES],
     lengths: &mut [usize; FILES],
@@ -235,7 +253,7 @@ fn read_files<'a>(
     let mut t: usize = 0;
     while t < FILES {
         let name = text_of(names, t);
-        let reading = read_named(names, t, name, buffers);
+        let reading = read_named(rt, names, t, name, buffers);
         if reading.failed {
             return t;
         }
@@ -248,15 +266,19 @@ fn read_files<'a>(
 // ---- the demonstration
 
 // Over three files of these names. All are read before a table is judged; the first that can't be is all that is told.
-pub fn demonstrate<'a>(old: &'a [u8], first: &'a [u8], second: &'a [u8]) {
+pub fn demonstrate<'a, R: Files + Print>(
+    rt: &R,
+    old: &'a [u8],
+    first: &'a [u8],
+    second: &'a [u8],
+) -> io::Result<()> {
     let names = [old, first, second];
     let mut buffers = [[0u8; MOST_READ]; FILES];
     let mut lengths = [0usize; FILES];
-    let unread = read_files(&names[..], &mut buffers, &mut lengths);
+    let unread = read_files(rt, &names[..], &mut buffers, &mut lengths);
     if unread < FILES {
         let name = text_of(&names[..], unread);
-        print_unread(&names[..], unread, name);
-        return;
+        return print_unread(rt, &names[..], unread, name);
     }
-    print_merged(&buffers, &lengths);
+    print_merged(rt, &buffers, &lengths)
 }

@@ -44,11 +44,10 @@
 //!
 //! # Stack
 //!
-//! The library borrows no memory but the stack. On x86-64 it takes 167 KB for a
-//! call on one table, for [`tidy`] up to 304 KB, and for [`merge`] 660 to 799 KB;
-//! on Arm 170 KB, 255 KB and 660 to 750 KB. `docs/PROMISES.md` says how that was
-//! measured, and `tests/stack.rs` tries it. A thread of Rust's own has 2 MB
-//! unless it is told otherwise.
+//! The library borrows no memory but the stack. It takes 167 KB for a call on one
+//! table, for [`tidy`] up to 304 KB, and for [`merge`] 660 to 799 KB.
+//! `docs/PROMISES.md` says how that was measured, and `tests/stack.rs` tries it. A
+//! thread of Rust's own has 2 MB unless it is told otherwise.
 
 #![warn(missing_docs)]
 

@@ -2,24 +2,17 @@
 
 use super::{Checked, Merged, Part, Tidied};
 
+#[cfg(not(target_arch = "x86_64"))]
+compile_error!("the proved library is for x86-64");
+
 // The members and their order are those of the library's own structs.
 extern "C" {
-    #[cfg(target_arch = "x86_64")]
     fn brooksaddle_check(text: *const u8, length: usize) -> Checked;
 
-    // The library's module is made for the calls of x86-64, where the
-    // caller passes a pointer to an answer of more than two words first.
-    // Compiled for another machine it still wants that pointer there.
-    #[cfg(not(target_arch = "x86_64"))]
-    fn brooksaddle_check(answer: *mut Checked, text: *const u8, length: usize) -> *mut Checked;
-
-    // An answer of two words is handed back in two registers, on x86-64 as
-    // on Arm. In that of tidy, code and line are the halves of the first.
     fn brooksaddle_tidy(text: *const u8, length: usize, buffer: *mut u8, room: usize) -> Tidied;
 
     fn brooksaddle_content(text: *const u8, length: usize, number: u32) -> Part;
 
-    #[cfg(target_arch = "x86_64")]
     fn brooksaddle_merge(
         old: *const u8,
         old_length: usize,
@@ -32,42 +25,14 @@ extern "C" {
         ledger: *mut u8,
         ledger_room: usize,
     ) -> Merged;
-
-    // As for check.
-    #[cfg(not(target_arch = "x86_64"))]
-    fn brooksaddle_merge(
-        answer: *mut Merged,
-        old: *const u8,
-        old_length: usize,
-        first: *const u8,
-        first_length: usize,
-        second: *const u8,
-        second_length: usize,
-        table: *mut u8,
-        table_room: usize,
-        ledger: *mut u8,
-        ledger_room: usize,
-    ) -> *mut Merged;
 }
 
-#[cfg(target_arch = "x86_64")]
 pub fn check(text: &[u8]) -> Checked {
     // SAFETY: the pointer and length are those of a live slice, so all its
     // bytes may be read, and the pointer is not null even when it is empty.
     // The library only reads the text and keeps nothing of it after the
     // call.
     unsafe { brooksaddle_check(text.as_ptr(), text.len()) }
-}
-
-#[cfg(not(target_arch = "x86_64"))]
-pub fn check(text: &[u8]) -> Checked {
-    let mut answer = std::mem::MaybeUninit::uninit();
-    // SAFETY: as on x86-64; and the answer has room for the library to
-    // write, which it does on every way out.
-    unsafe {
-        brooksaddle_check(answer.as_mut_ptr(), text.as_ptr(), text.len());
-        answer.assume_init()
-    }
 }
 
 pub fn tidy(text: &[u8], buffer: &mut [u8]) -> Tidied {
@@ -84,7 +49,6 @@ pub fn content(text: &[u8], number: u32) -> Part {
     unsafe { brooksaddle_content(text.as_ptr(), text.len(), number) }
 }
 
-#[cfg(target_arch = "x86_64")]
 pub fn merge([old, first, second]: [&[u8]; 3], [table, ledger]: [&mut [u8]; 2]) -> Merged {
     // SAFETY: as in `tidy` for each of the texts and of the buffers. Both
     // buffers are lent to this call alone, so they have no byte in common.
@@ -101,27 +65,5 @@ pub fn merge([old, first, second]: [&[u8]; 3], [table, ledger]: [&mut [u8]; 2]) 
             ledger.as_mut_ptr(),
             ledger.len(),
         )
-    }
-}
-
-#[cfg(not(target_arch = "x86_64"))]
-pub fn merge([old, first, second]: [&[u8]; 3], [table, ledger]: [&mut [u8]; 2]) -> Merged {
-    let mut answer = std::mem::MaybeUninit::uninit();
-    // SAFETY: as on x86-64, and for the answer as in `check`.
-    unsafe {
-        brooksaddle_merge(
-            answer.as_mut_ptr(),
-            old.as_ptr(),
-            old.len(),
-            first.as_ptr(),
-            first.len(),
-            second.as_ptr(),
-            second.len(),
-            table.as_mut_ptr(),
-            table.len(),
-            ledger.as_mut_ptr(),
-            ledger.len(),
-        );
-        answer.assume_init()
     }
 }
