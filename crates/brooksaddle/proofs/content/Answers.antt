@@ -12,7 +12,9 @@ pub overflow_add-end : goal.overflow_add-end
 overflow_add-end c =
     let s = c.args in
     let within = part_in_lem s.text.now s.number _ c.content_part-part.ensures in
-    record { fits = omega (arith, within) }
+    record {
+      fits = omega (arith, within);
+    }
 
 pub slice_bounds-result-count : goal.slice_bounds-result-count
 slice_bounds-result-count c = search rules

@@ -23,8 +23,7 @@ slice_bounds-merge_tables-end c = search rules
 
 pub merge_tables-requires : goal.merge_tables-requires
 merge_tables-requires c =
-    let read = c in
-    (merge_ready _ _ _ _ _ _ _ read.read_all-read.ensures c.if-code-ne-ACCEPTED.false, refl)
+    (merge_ready _ _ _ _ _ _ _ c.read_all-read.ensures c.if-code-ne-ACCEPTED.false, refl)
 
 pub shape_of-table : goal.shape_of-table
 shape_of-table c = search rules
@@ -34,6 +33,5 @@ shape_of-ledger c = search rules
 
 pub returns : goal.returns
 returns c =
-    let merged = c in
-    merge_read _ _ _ _ _ _ _ merged.read_all-read.ensures
-    merged.if-code-ne-ACCEPTED.false _ _ _ _ _ merged.merge_tables.ensures
+    merge_read _ _ _ _ _ _ _ c.read_all-read.ensures
+    c.if-code-ne-ACCEPTED.false _ _ _ _ _ c.merge_tables.ensures
