@@ -9,7 +9,8 @@ use lib.ListN.{length, get_or, replicate, get_or-replicate}
 use Rattle.rules.specs.Lists.{◌∈◌}
 use Rattle.rules.specs.Line.{Row}
 use Rattle.rules.specs.Table.{numbers, readable, verdict}
-use Rattle.rules.specs.Calls.{Outcome, not_read, too_large, once_all_read, merge_tables, merge_texts, told, answer_of, table_after, ledger_after}
+use Rattle.rules.specs.Calls.{Outcome, not_read, too_large, once_all_read, merge_tables, merge_texts, told, answer_of, table_after}
+use Rattle.rules.specs.Calls.{ledger_after}
 use Rattle.rules.specs.Promises.{Merges}
 use Rattle.rules.specs.declared.answers.Merged.{Merged}
 use Rattle.trees.proofs.OneTable.{number_row}
@@ -43,7 +44,8 @@ module _ (old first second : List ℕ) (lines facts : List (List ℕ)) (counts :
   onward table_room ledger_room (t ∷ ts) = merge_tables t ts table_room ledger_room
 
   outcome : (table_room ledger_room : ℕ)
-      → merge_texts old (first ∷ second ∷ []) table_room ledger_room ≡ once_all_read 1 (old ∷ first ∷ second ∷ []) (onward table_room ledger_room)
+      → merge_texts old (first ∷ second ∷ []) table_room ledger_room ≡ once_all_read 1 (old ∷ first ∷ second ∷ [])
+          (onward table_room ledger_room)
   unfolding merge_texts onward
   outcome table_room ledger_room = refl
 

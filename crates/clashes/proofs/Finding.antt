@@ -127,7 +127,8 @@ module _ (texts lines facts : List (List ℕ)) (old : List Row) (branches : List
         (λ k i. refl) count
         ∙ least-parents q O Bs views (number_on facts) count met
 
-    pub neighbour_least : (all_clashes texts lines facts counts).neighbour ≡ least_or (neighbour_clashes (facts_of old) (map facts_of branches))
+    pub neighbour_least : (all_clashes texts lines facts counts).neighbour ≡ least_or
+        (neighbour_clashes (facts_of old) (map facts_of branches))
     neighbour_least =
         kind_of (λ c. c.neighbour) refl (λ a b. refl) (λ k i. clashes_at q w k (number_on facts k i))
         (λ k i. neighbour_place q k (number_on facts k i))

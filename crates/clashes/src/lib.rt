@@ -4,7 +4,7 @@
 
 ghost use Rattle.std.specs.Prelude.{◌≡◌, [], map, ℕ, ◌<◌, length, get_or};
 ghost use Rattle.rules.specs.Marks.{START};
-ghost use Rattle.facts.specs.Memory.{ROOM, TABLES};
+ghost use Rattle.facts.specs.Memory.{ROOM as room_of_memory, TABLES as tables_of_memory};
 ghost use Rattle.edits.specs.Memory.{number_on};
 ghost use Rattle.contents.specs.Marks.{LinedTable, Lined, mark_on, MarkedTable, Marked, Noted};
 ghost use Rattle.clashes.specs.Clashes.{lesser, clashes_on, clashes_in, all_clashes};
@@ -44,7 +44,7 @@ fn clashes_on<'a>(
     t: usize,
     i: usize,
 ) -> Clashes
-    requires t_nonzero { ((0 < t) × (t < TABLES)) × ((i < ROOM) × (length texts.now ≡ TABLES)) }
+    requires t_nonzero { ((0 < t) × (t < tables_of_memory)) × ((i < room_of_memory) × (length texts.now ≡ tables_of_memory)) }
     requires noted { Noted (map (λ x. x.now) texts.now) lines.now facts.now marks.now }
     requires i_bound { number_on facts.now t i < START }
     requires i_value { get_or (get_or marks.now t []) i 0 ≡ mark_on (map (λ x. x.now) texts.now) lines.now facts.now t i }
@@ -77,7 +77,7 @@ fn clashes_in<'a>(
     t: usize,
     count: usize,
 ) -> Clashes
-    requires t_nonzero { ((0 < t) × (t < TABLES)) × ((count < ROOM) × (length texts.now ≡ TABLES)) }
+    requires t_nonzero { ((0 < t) × (t < tables_of_memory)) × ((count < room_of_memory) × (length texts.now ≡ tables_of_memory)) }
     requires noted { Noted (map (λ x. x.now) texts.now) lines.now facts.now marks.now }
     requires lined_table { LinedTable (get_or lines.now t []) (get_or facts.now t []) count }
     requires marked_table { MarkedTable (map (λ x. x.now) texts.now) lines.now facts.now t count (get_or marks.now t []) }
@@ -107,7 +107,8 @@ pub fn least_clashes<'a>(
     marks: &[[u8; ROOM]; TABLES],
     counts: &[usize; TABLES],
 ) -> Clashes
-    requires by_index { ((k : ℕ) → k < TABLES → get_or counts.now k 0 < ROOM) × (length texts.now ≡ TABLES) }
+    requires by_index { ((k : ℕ) → k < tables_of_memory → get_or counts.now k 0 < room_of_memory)
+        × (length texts.now ≡ tables_of_memory) }
     requires lined { Lined lines.now facts.now counts.now }
     requires marked { Marked (map (λ x. x.now) texts.now) lines.now facts.now counts.now marks.now }
     ensures { result ≡ all_clashes (map (λ x. x.now) texts.now) lines.now facts.now counts.now }

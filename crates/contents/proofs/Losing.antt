@@ -51,7 +51,8 @@ walk_holding next content k r p = record { of = of; all = all }
 pub merged_holding : (old : Facts) (branches : List Facts)
     → Holding (tree_contents (merged_tree old branches)) (content_in (kept_contents old branches)) (numbers_in (merged_tree old branches))
 unfolding merged_tree
-merged_holding old branches = walk_holding (follower (kept_positions old branches)) (content_in (kept_contents old branches)) STEPS TOP START
+merged_holding old branches = walk_holding (follower (kept_positions old branches)) (content_in (kept_contents old branches)) STEPS TOP
+    START
 
 module _ (w : ℕ → Told) (old : Facts) (branches : List Facts) (v : ContentViews w old branches)
     (none : content_clashes old branches ≡ []) (facts : List ContentFact) (ns : List ℕ)

@@ -7,7 +7,7 @@ pub mod marks;
 
 ghost use Rattle.std.specs.Prelude.{◌≡◌, map, ◌+◌, ◌<◌, ◌≤◌, length, take, drop};
 ghost use Rattle.rules.specs.Facts.{same_content};
-ghost use Rattle.facts.specs.Memory.{ROOM, TABLES, WIDTH};
+ghost use Rattle.facts.specs.Memory.{ROOM as room_of_memory, TABLES as tables_of_memory, WIDTH};
 ghost use Rattle.edits.specs.Branches.{first_branch, sum_branches};
 ghost use Rattle.edits.specs.Memory.{field_in};
 ghost use Rattle.contents.specs.Contents.{two_contents, content_place};
@@ -100,7 +100,7 @@ fn field_in(
     n: Record,
     i: usize,
 ) -> u32
-    requires { (t < TABLES) × (i < WIDTH) }
+    requires { (t < tables_of_memory) × (i < WIDTH) }
     ensures { result ≡ field_in lines.now facts.now t n.number i }
 {
     field(&lines[t], &facts[t], n, i)
@@ -113,7 +113,7 @@ fn content_on<'a>(
     t: usize,
     l: usize,
 ) -> &'a [u8]
-    requires { (t < TABLES) × ((l < ROOM) × (length texts.now ≡ TABLES)) }
+    requires { (t < tables_of_memory) × ((l < room_of_memory) × (length texts.now ≡ tables_of_memory)) }
     ensures { result.now ≡ content_on (map (λ x. x.now) texts.now) facts.now t l }
 {
     let start = field_on(&facts[t], l, PLACE);
@@ -129,7 +129,7 @@ fn content<'a>(
     t: usize,
     n: Record,
 ) -> &'a [u8]
-    requires { (t < TABLES) × (length texts.now ≡ TABLES) }
+    requires { (t < tables_of_memory) × (length texts.now ≡ tables_of_memory) }
     ensures { result.now ≡ (tell (map (λ x. x.now) texts.now) lines.now facts.now t).content n.number }
 {
     let l = line_of(&lines[t], n);
@@ -145,7 +145,7 @@ fn same_in<'a>(
     k: usize,
     n: Record,
 ) -> bool
-    requires { (t < TABLES) × ((k < TABLES) × (length texts.now ≡ TABLES)) }
+    requires { (t < tables_of_memory) × ((k < tables_of_memory) × (length texts.now ≡ tables_of_memory)) }
     ensures { result ≡ same_content ((tell (map (λ x. x.now) texts.now) lines.now facts.now t).content n.number)
         ((tell (map (λ x. x.now) texts.now) lines.now facts.now k).content n.number) }
 {
@@ -169,7 +169,7 @@ fn content_source(
     n: Record,
 ) -> Source
     ensures table_value { result.table ≡ first_branch (λ k. edited_in lines.now marks.now k n.number) }
-    ensures table_bound { result.table < TABLES }
+    ensures table_bound { result.table < tables_of_memory }
     ensures origin_value { result.origin ≡ sum_branches (λ k. edited_in lines.now marks.now k n.number) }
     ensures origin_bound { result.origin ≤ 3 }
 {
@@ -199,7 +199,7 @@ fn two_contents<'a>(
     t: usize,
     n: Record,
 ) -> bool
-    requires t_nonzero { ((0 < t) × (t < TABLES)) × (length texts.now ≡ TABLES) }
+    requires t_nonzero { ((0 < t) × (t < tables_of_memory)) × (length texts.now ≡ tables_of_memory) }
     requires noted { Noted (map (λ x. x.now) texts.now) lines.now facts.now marks.now }
     ensures { result ≡ two_contents (tell (map (λ x. x.now) texts.now) lines.now facts.now) t n.number }
 {
@@ -223,7 +223,7 @@ pub fn content_place<'a>(
     t: usize,
     n: Record,
 ) -> u32
-    requires t_nonzero { ((0 < t) × (t < TABLES)) × (length texts.now ≡ TABLES) }
+    requires t_nonzero { ((0 < t) × (t < tables_of_memory)) × (length texts.now ≡ tables_of_memory) }
     requires noted { Noted (map (λ x. x.now) texts.now) lines.now facts.now marks.now }
     ensures { result ≡ content_place (tell (map (λ x. x.now) texts.now) lines.now facts.now) t n.number }
 {

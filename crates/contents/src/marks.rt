@@ -3,7 +3,7 @@
 // position that is not old's. n is a record, i a line, o the line of its number in old, t a table.
 ghost use Rattle.std.specs.Prelude.{◌≡◌, [], map, ℕ, ◌<◌, length, get_or, set};
 ghost use Rattle.rules.specs.Facts.{same_content};
-ghost use Rattle.facts.specs.Memory.{ROOM, TABLES, line_at};
+ghost use Rattle.facts.specs.Memory.{ROOM as room_of_memory, TABLES as tables_of_memory, line_at};
 ghost use Rattle.edits.specs.Memory.{number_on};
 ghost use Rattle.contents.specs.Memory.{content_on};
 ghost use Rattle.contents.specs.Marks.{LinedTable, Lined, mark_of, mark_on, MarkedTable, Marked, edited_in, Noted};
@@ -32,7 +32,7 @@ fn same_as_old<'a>(
     i: usize,
     o: usize,
 ) -> bool
-    requires { (t < TABLES) × ((i < ROOM) × ((o < ROOM) × (length texts.now ≡ TABLES))) }
+    requires { (t < tables_of_memory) × ((i < room_of_memory) × ((o < room_of_memory) × (length texts.now ≡ tables_of_memory))) }
     ensures { result ≡ same_content (content_on (map (λ x. x.now) texts.now) facts.now t i)
         (content_on (map (λ x. x.now) texts.now) facts.now 0 o) }
 {
@@ -48,7 +48,7 @@ fn mark_line<'a>(
     t: usize,
     i: usize,
 ) -> u8
-    requires t_bound { (t < TABLES) × ((i < ROOM) × (length texts.now ≡ TABLES)) }
+    requires t_bound { (t < tables_of_memory) × ((i < room_of_memory) × (length texts.now ≡ tables_of_memory)) }
     requires i_value { line_at (get_or lines.now t []) (number_on facts.now t i) ≡ i }
     ensures { result ≡ mark_on (map (λ x. x.now) texts.now) lines.now facts.now t i }
 {
@@ -69,7 +69,7 @@ fn mark_line<'a>(
 
 // What the type of the lent array says of its length. It does nothing when it runs.
 fn one_each(row: &[u8; ROOM])
-    ensures { length row.now ≡ ROOM }
+    ensures { length row.now ≡ room_of_memory }
 {
     let s = &row[..];
 }
@@ -82,7 +82,7 @@ fn mark_lines<'a>(
     count: usize,
     row: &mut [u8; ROOM],
 )
-    requires t_bound { (t < TABLES) × ((count < ROOM) × (length texts.now ≡ TABLES)) }
+    requires t_bound { (t < tables_of_memory) × ((count < room_of_memory) × (length texts.now ≡ tables_of_memory)) }
     requires lined_table { LinedTable (get_or lines.now t []) (get_or facts.now t []) count }
     ensures { MarkedTable (map (λ x. x.now) texts.now) lines.now facts.now t count row.new }
 {
@@ -98,7 +98,7 @@ fn mark_lines<'a>(
 
 // What the type of the lent array says of its length. It does nothing when it runs.
 fn side_by_side(marks: &[[u8; ROOM]; TABLES])
-    ensures { length marks.now ≡ TABLES }
+    ensures { length marks.now ≡ tables_of_memory }
 {
     let s = &marks[..];
 }
@@ -112,7 +112,7 @@ fn mark_branch<'a>(
     count: usize,
     marks: &mut [[u8; ROOM]; TABLES],
 )
-    requires t_bound { (t < TABLES) × ((count < ROOM) × (length texts.now ≡ TABLES)) }
+    requires t_bound { (t < tables_of_memory) × ((count < room_of_memory) × (length texts.now ≡ tables_of_memory)) }
     requires lined_table { LinedTable (get_or lines.now t []) (get_or facts.now t []) count }
     ensures marked_table { MarkedTable (map (λ x. x.now) texts.now) lines.now facts.now t count
         (get_or marks.new t []) }
@@ -130,7 +130,8 @@ pub fn mark_branches<'a>(
     counts: &[usize; TABLES],
     marks: &mut [[u8; ROOM]; TABLES],
 )
-    requires by_index { ((k : ℕ) → k < TABLES → get_or counts.now k 0 < ROOM) × (length texts.now ≡ TABLES) }
+    requires by_index { ((k : ℕ) → k < tables_of_memory → get_or counts.now k 0 < room_of_memory)
+        × (length texts.now ≡ tables_of_memory) }
     requires lined { Lined lines.now facts.now counts.now }
     ensures marked { Marked (map (λ x. x.now) texts.now) lines.now facts.now counts.now marks.new }
     ensures noted { Noted (map (λ x. x.now) texts.now) lines.now facts.now marks.new }
@@ -151,7 +152,7 @@ pub fn edited(
     t: usize,
     n: Record,
 ) -> bool
-    requires { t < TABLES }
+    requires { t < tables_of_memory }
     ensures { result ≡ edited_in lines.now marks.now t n.number }
 {
     let l = line_of(&lines[t], n);

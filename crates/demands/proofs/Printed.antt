@@ -40,7 +40,8 @@ shown_parts : (end : Outcome) → shown end ≡ five_numbers (answer_of end) ++ 
 shown_parts (not_read table code line) = sym (append-nil (five_numbers (answer_of (not_read table code line))))
 shown_parts (clash code place) = sym (append-nil (five_numbers (answer_of (clash code place))))
 shown_parts too_large = sym (append-nil (five_numbers (answer_of too_large)))
-shown_parts (no_room code table_length ledger_length) = sym (append-nil (five_numbers (answer_of (no_room code table_length ledger_length))))
+shown_parts (no_room code table_length ledger_length) =
+    sym (append-nil (five_numbers (answer_of (no_room code table_length ledger_length))))
 shown_parts (done table es) = refl
 
 module _ (end : Outcome) where

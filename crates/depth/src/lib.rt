@@ -2,14 +2,14 @@
 #![tactic(auto)]
 
 ghost use Rattle.std.specs.Prelude.{◌≡◌, max, ◌≤◌, length};
-ghost use Rattle.facts.specs.Memory.{ROOM};
+ghost use Rattle.facts.specs.Memory.{ROOM as room_of_memory};
 ghost use Rattle.depth.specs.Climbing.{up_line, depth_on, greatest_on, Climbs, Noted};
 
 use facts::{FACTS, NUMBERS, ROOM, line_of, parent_on, wide};
 
 // What the type of the lent notes says of their length. It does nothing when it runs.
 fn notes(noted: &[u16; ROOM])
-    ensures { length noted.now ≡ ROOM }
+    ensures { length noted.now ≡ room_of_memory }
 {
     let s = &noted[..];
 }

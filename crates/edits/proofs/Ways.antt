@@ -110,7 +110,8 @@ module _ (q : ℕ → Asked) where
   claims_there t n r h z e y f g =
       and_then ((q t).has n) (fresh_beside q t ((q t).up n) n) h z e y (g ∙ ap (λ (u : ℕ). fresh_beside q t u n) f)
 
-  pub parents_differ_lem : (t n k a b : ℕ) (z : Bool) → z ≡ claims q t n → z ≡ true → k ≡ parent_source q n → a ≡ (q t).up n → b ≡ (q k).up n
+  pub parents_differ_lem : (t n k a b : ℕ) (z : Bool) → z ≡ claims q t n → z ≡ true → k ≡ parent_source q n → a ≡ (q t).up n
+      → b ≡ (q k).up n
       → not (eqb a b) ≡ two_parents q t n
   parents_differ_lem t n k a b z e y f ea eb =
       and_then (claims q t n) (not (eqb ((q t).up n) ((q (parent_source q n)).up n))) z (not (eqb a b)) e y
@@ -134,7 +135,8 @@ module _ (q : ℕ → Asked) where
         → z ≡ fresh o s → z ≡ true → s ≡ kept_after q r p
     going_here o t s kept z w eo h es ez y =
         let e : t ≡ first_branch (λ k. fresh o ((q k).after r p)) = fresh_here (λ k. (q k).after r p) o t s z w.left h es ez y in
-        let f : t ≡ first_branch (λ k. fresh old ((q k).after r p)) = e ∙ ap (λ (x : ℕ). first_branch (λ k. fresh x ((q k).after r p))) eo in
+        let f : t ≡ first_branch (λ k. fresh old ((q k).after r p)) = e
+            ∙ ap (λ (x : ℕ). first_branch (λ k. fresh x ((q k).after r p))) eo in
         es ∙ ap (λ (k : ℕ). (q k).after r p) f ∙ picked (first_branch (λ k. fresh old ((q k).after r p))) (omega (arith, f, w.left.low))
       where
         picked : (k : ℕ) → 0 < k → (q k).after r p ≡ cond (ltb 0 k) ((q k).after r p)

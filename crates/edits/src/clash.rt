@@ -1,7 +1,7 @@
 // Where two edits of positions clash: 22 and 23, as they show at one record of one branch. r is a parent, p the one before, s the one
 // after, n a record, o what old answers, t a table.
 ghost use Rattle.std.specs.Prelude.{◌≡◌, ◌<◌};
-ghost use Rattle.facts.specs.Memory.{TABLES};
+ghost use Rattle.facts.specs.Memory.{TABLES as tables_of_memory};
 ghost use Rattle.edits.specs.Branches.{first_branch};
 ghost use Rattle.edits.specs.Memory.{ask};
 ghost use Rattle.edits.specs.Positions.{fresh, parent_source};
@@ -21,7 +21,7 @@ fn after_source(
     o: Record,
 ) -> usize
     ensures value { result ≡ first_branch (λ k. fresh o.number ((ask lines.now facts.now k).after r.number p.number)) }
-    ensures upper_bound { result < TABLES }
+    ensures upper_bound { result < tables_of_memory }
 {
     let mut t: usize = 1;
     while t < TABLES {
@@ -42,7 +42,7 @@ fn before_source(
     o: Record,
 ) -> usize
     ensures value { result ≡ first_branch (λ k. fresh o.number ((ask lines.now facts.now k).before r.number s.number)) }
-    ensures upper_bound { result < TABLES }
+    ensures upper_bound { result < tables_of_memory }
 {
     let mut t: usize = 1;
     while t < TABLES {
@@ -61,7 +61,7 @@ fn parent_source(
     n: Record,
 ) -> usize
     ensures value { result ≡ parent_source (ask lines.now facts.now) n.number }
-    ensures upper_bound { result < TABLES }
+    ensures upper_bound { result < tables_of_memory }
 {
     let mut t: usize = 1;
     while t < TABLES {
@@ -82,7 +82,7 @@ fn two_followers(
     r: Record,
     p: Record,
 ) -> bool
-    requires { t < TABLES }
+    requires { t < tables_of_memory }
     ensures { result ≡ two_followers (ask lines.now facts.now) t r.number p.number }
 {
     let o = follower_in(lines, facts, 0, r, p);
@@ -102,7 +102,7 @@ fn two_forerunners(
     r: Record,
     s: Record,
 ) -> bool
-    requires { t < TABLES }
+    requires { t < tables_of_memory }
     ensures { result ≡ two_forerunners (ask lines.now facts.now) t r.number s.number }
 {
     let o = forerunner_in(lines, facts, 0, r, s);
@@ -121,7 +121,7 @@ fn two_parents(
     t: usize,
     n: Record,
 ) -> bool
-    requires { t < TABLES }
+    requires { t < tables_of_memory }
     ensures { result ≡ two_parents (ask lines.now facts.now) t n.number }
 {
     if claims(lines, facts, t, n) {
@@ -142,7 +142,7 @@ fn torn(
     p: Record,
     s: Record,
 ) -> bool
-    requires { t < TABLES }
+    requires { t < tables_of_memory }
     ensures { result ≡ torn (ask lines.now facts.now) t r.number p.number s.number }
 {
     if two_followers(lines, facts, t, r, p) {
@@ -158,7 +158,7 @@ pub fn parent_place(
     t: usize,
     n: Record,
 ) -> u32
-    requires { t < TABLES }
+    requires { t < tables_of_memory }
     ensures { result ≡ parent_place (ask lines.now facts.now) t n.number }
 {
     let test = two_parents(lines, facts, t, n);
@@ -172,7 +172,7 @@ pub fn neighbour_place(
     t: usize,
     n: Record,
 ) -> u32
-    requires { t < TABLES }
+    requires { t < tables_of_memory }
     ensures { result ≡ neighbour_place (ask lines.now facts.now) t n.number }
 {
     let r = parent_in(lines, facts, t, n);

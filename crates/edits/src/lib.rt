@@ -6,9 +6,9 @@
 pub mod clash;
 
 ghost use Rattle.std.specs.Prelude.{◌≡◌, [], ◌&&◌, ◌||◌, min, ◌<◌, eqb, get_or};
-ghost use Rattle.facts.specs.Memory.{ROOM, WIDTH, TABLES};
+ghost use Rattle.facts.specs.Memory.{ROOM, WIDTH, TABLES as tables_of_memory};
 ghost use Rattle.facts.specs.Asked.{has_in};
-ghost use Rattle.edits.specs.Least.{NONE, place};
+ghost use Rattle.edits.specs.Least.{NONE as none_of_least, place};
 ghost use Rattle.edits.specs.Memory.{ask, number_on, same_field, alike_on};
 ghost use Rattle.edits.specs.Positions.{fresh, fresh_after, fresh_before, fresh_beside, claims};
 ghost use Rattle.edits.specs.Positions.{knows, unknown, kept_after};
@@ -26,7 +26,7 @@ pub const NONE: u32 = 65536;
 
 // Ties the constant to the definition of the same name.
 pub fn none() -> u32
-    ensures { result ≡ NONE }
+    ensures { result ≡ none_of_least }
 {
     NONE
 }
@@ -47,7 +47,7 @@ pub fn place(test: bool, n: Record) -> u32
 // ---- the tables
 
 fn has_in(lines: &[[u16; NUMBERS]; TABLES], t: usize, n: Record) -> bool
-    requires { t < TABLES }
+    requires { t < tables_of_memory }
     ensures { result ≡ has_in (get_or lines.now t []) n.number }
 {
     has(&lines[t], n)
@@ -59,7 +59,7 @@ pub fn parent_in(
     t: usize,
     n: Record,
 ) -> Record
-    requires { t < TABLES }
+    requires { t < tables_of_memory }
     ensures { result.number ≡ (ask lines.now facts.now t).up n.number }
 {
     parent(&lines[t], &facts[t], n)
@@ -72,7 +72,7 @@ pub fn follower_in(
     r: Record,
     p: Record,
 ) -> Record
-    requires { t < TABLES }
+    requires { t < tables_of_memory }
     ensures { result.number ≡ (ask lines.now facts.now t).after r.number p.number }
 {
     follower(&lines[t], &facts[t], r, p)
@@ -85,7 +85,7 @@ fn forerunner_in(
     r: Record,
     s: Record,
 ) -> Record
-    requires { t < TABLES }
+    requires { t < tables_of_memory }
     ensures { result.number ≡ (ask lines.now facts.now t).before r.number s.number }
 {
     forerunner(&lines[t], &facts[t], r, s)
@@ -93,7 +93,7 @@ fn forerunner_in(
 
 // The number on a line of a table.
 pub fn number_in(facts: &[[u32; FACTS]; TABLES], t: usize, i: usize) -> Record
-    requires { (t < TABLES) × (i < ROOM) }
+    requires { (t < tables_of_memory) × (i < ROOM) }
     ensures { result.number ≡ number_on facts.now t i }
 {
     number_on(&facts[t], i)
@@ -138,7 +138,7 @@ fn fresh_after(
     r: Record,
     p: Record,
 ) -> bool
-    requires { t < TABLES }
+    requires { t < tables_of_memory }
     ensures { result ≡ fresh_after (ask lines.now facts.now) t r.number p.number }
 {
     let o = follower_in(lines, facts, 0, r, p);
@@ -153,7 +153,7 @@ fn fresh_before(
     r: Record,
     s: Record,
 ) -> bool
-    requires { t < TABLES }
+    requires { t < tables_of_memory }
     ensures { result ≡ fresh_before (ask lines.now facts.now) t r.number s.number }
 {
     let o = forerunner_in(lines, facts, 0, r, s);
@@ -169,7 +169,7 @@ fn fresh_beside(
     r: Record,
     n: Record,
 ) -> bool
-    requires { t < TABLES }
+    requires { t < tables_of_memory }
     ensures { result ≡ fresh_beside (ask lines.now facts.now) t r.number n.number }
 {
     if fresh_after(lines, facts, t, r, n) {
@@ -185,7 +185,7 @@ fn claims(
     t: usize,
     n: Record,
 ) -> bool
-    requires { t < TABLES }
+    requires { t < tables_of_memory }
     ensures { result ≡ claims (ask lines.now facts.now) t n.number }
 {
     if has_in(lines, t, n) {
@@ -209,7 +209,7 @@ fn knows(lines: &[u16; NUMBERS], r: Record, n: Record) -> bool
 
 // The table knows neither `p` nor `s` under `r`.
 fn unknown(lines: &[[u16; NUMBERS]; TABLES], t: usize, r: Record, p: Record, s: Record) -> bool
-    requires { t < TABLES }
+    requires { t < tables_of_memory }
     ensures { result ≡ unknown (has_in (get_or lines.now t [])) r.number p.number s.number }
 {
     if knows(&lines[t], r, p) {
@@ -228,7 +228,7 @@ fn still_kept(
     s: Record,
     kept: bool,
 ) -> bool
-    requires { t < TABLES }
+    requires { t < tables_of_memory }
     ensures { result ≡ (kept && (eqb s.number o.number
         || unknown (has_in (get_or lines.now t [])) r.number p.number o.number)) }
 {

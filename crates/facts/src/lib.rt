@@ -5,8 +5,11 @@
 #![tactic(auto)]
 
 ghost use Rattle.std.specs.Prelude.{◌≡◌, [], ◌∷◌, ◌+◌, ◌*◌, ◌<◌, length};
-ghost use Rattle.facts.specs.Memory.{NUMBERS, ROOM, WIDTH, NUMBER, PARENT, FORERUNNER, FOLLOWER, FIRST, LAST, PLACE, LENGTH};
-ghost use Rattle.facts.specs.Memory.{TABLES, SPAN, TEXTS};
+ghost use Rattle.facts.specs.Memory.{NUMBERS as numbers_of_memory, ROOM as room_of_memory, WIDTH as width_of_memory};
+ghost use Rattle.facts.specs.Memory.{NUMBER as number_of_memory, PARENT as parent_of_memory, FORERUNNER as forerunner_of_memory};
+ghost use Rattle.facts.specs.Memory.{FOLLOWER as follower_of_memory, FIRST as first_of_memory, LAST as last_of_memory};
+ghost use Rattle.facts.specs.Memory.{PLACE as place_of_memory, LENGTH as length_of_memory};
+ghost use Rattle.facts.specs.Memory.{TABLES as tables_of_memory, SPAN as span_of_memory, TEXTS as texts_of_memory};
 ghost use Rattle.facts.specs.Memory.{line_at, field_on, field, who, way, laid, put_field, add_line, add_facts, opened};
 ghost use Rattle.facts.specs.Asked.{has_in, list_in, child_in, asked};
 
@@ -53,19 +56,21 @@ pub const LENGTH: usize = 7;
 
 // These three tie the constants to the definitions of the same names.
 pub fn shape() -> [usize; 5]
-    ensures { result ≡ NUMBERS ∷ ROOM ∷ WIDTH ∷ (ROOM * WIDTH) ∷ TABLES ∷ [] }
+    ensures { result ≡ numbers_of_memory ∷ room_of_memory ∷ width_of_memory ∷ (room_of_memory * width_of_memory)
+        ∷ tables_of_memory ∷ [] }
 {
     [NUMBERS, ROOM, WIDTH, FACTS, TABLES]
 }
 
 pub fn spans() -> [u32; 2]
-    ensures { result ≡ SPAN ∷ TEXTS ∷ [] }
+    ensures { result ≡ span_of_memory ∷ texts_of_memory ∷ [] }
 {
     [SPAN, TEXTS]
 }
 
 pub fn fields() -> [usize; 8]
-    ensures { result ≡ NUMBER ∷ PARENT ∷ FORERUNNER ∷ FOLLOWER ∷ FIRST ∷ LAST ∷ PLACE ∷ LENGTH ∷ [] }
+    ensures { result ≡ number_of_memory ∷ parent_of_memory ∷ forerunner_of_memory ∷ follower_of_memory ∷ first_of_memory
+        ∷ last_of_memory ∷ place_of_memory ∷ length_of_memory ∷ [] }
 {
     [
         NUMBER, PARENT, FORERUNNER, FOLLOWER, FIRST, LAST, PLACE, LENGTH,
@@ -81,13 +86,13 @@ pub fn wide(x: u16) -> usize
 
 // What the type of a lent array says of its length. Neither does anything when it runs.
 pub fn column(lines: &[u16; NUMBERS])
-    ensures { length lines.now ≡ NUMBERS }
+    ensures { length lines.now ≡ numbers_of_memory }
 {
     let s = &lines[..];
 }
 
 pub fn width(facts: &[u32; FACTS])
-    ensures { length facts.now ≡ ROOM * WIDTH }
+    ensures { length facts.now ≡ room_of_memory * width_of_memory }
 {
     let s = &facts[..];
 }
@@ -97,7 +102,7 @@ pub fn width(facts: &[u32; FACTS])
 // the line of a number; 0 for the top, and for a number that is absent
 pub fn line_of(lines: &[u16; NUMBERS], n: Record) -> usize
     ensures value { result ≡ line_at lines.now n.number }
-    ensures upper_bound { result < ROOM }
+    ensures upper_bound { result < room_of_memory }
 {
     column(lines);
     let i = n.number as usize;
@@ -112,7 +117,7 @@ pub fn line_of(lines: &[u16; NUMBERS], n: Record) -> usize
 
 // a field of a record's line
 pub fn field(lines: &[u16; NUMBERS], facts: &[u32; FACTS], n: Record, k: usize) -> u32
-    requires { k < WIDTH }
+    requires { k < width_of_memory }
     ensures { result ≡ field lines.now facts.now n.number k }
 {
     let l = line_of(lines, n);
@@ -121,7 +126,7 @@ pub fn field(lines: &[u16; NUMBERS], facts: &[u32; FACTS], n: Record, k: usize) 
 
 // the record, or the mark, in a field of a record's line
 pub fn record_in(lines: &[u16; NUMBERS], facts: &[u32; FACTS], n: Record, k: usize) -> Record
-    requires { k < WIDTH }
+    requires { k < width_of_memory }
     ensures { result.number ≡ field lines.now facts.now n.number k }
 {
     Record::new(field(lines, facts, n, k))
@@ -129,7 +134,7 @@ pub fn record_in(lines: &[u16; NUMBERS], facts: &[u32; FACTS], n: Record, k: usi
 
 // a field of a line
 pub fn field_on(facts: &[u32; FACTS], l: usize, k: usize) -> u32
-    requires { (l < ROOM) × (k < WIDTH) }
+    requires { (l < room_of_memory) × (k < width_of_memory) }
     ensures { result ≡ field_on facts.now l k }
 {
     facts[l * WIDTH + k]
@@ -137,16 +142,16 @@ pub fn field_on(facts: &[u32; FACTS], l: usize, k: usize) -> u32
 
 // the number on a line
 pub fn number_on(facts: &[u32; FACTS], l: usize) -> Record
-    requires { l < ROOM }
-    ensures { result.number ≡ field_on facts.now l NUMBER }
+    requires { l < room_of_memory }
+    ensures { result.number ≡ field_on facts.now l number_of_memory }
 {
     Record::new(field_on(facts, l, NUMBER))
 }
 
 // the parent of the record on a line
 pub fn parent_on(facts: &[u32; FACTS], l: usize) -> Record
-    requires { l < ROOM }
-    ensures { result.number ≡ field_on facts.now l PARENT }
+    requires { l < room_of_memory }
+    ensures { result.number ≡ field_on facts.now l parent_of_memory }
 {
     Record::new(field_on(facts, l, PARENT))
 }
@@ -231,7 +236,7 @@ pub fn open(facts: &mut [u32; FACTS])
 
 // the fields of a new line: nothing follows it, and it has no child
 fn lay(facts: &mut [u32; FACTS], l: usize, n: Record, r: Record, p: Record, start: u32, long: u32)
-    requires { l < ROOM }
+    requires { l < room_of_memory }
     ensures { facts.new ≡ laid facts.old l n.number r.number p.number start long }
 {
     facts[l * WIDTH + NUMBER] = n.number;
@@ -256,7 +261,7 @@ fn who(r: Record, p: Record) -> Record
 
 fn way(p: Record) -> usize
     ensures value { result ≡ way p.number }
-    ensures upper_bound { result < WIDTH }
+    ensures upper_bound { result < width_of_memory }
 {
     if p.is_start() {
         return FIRST;
@@ -266,7 +271,7 @@ fn way(p: Record) -> usize
 
 // stores the number `v` in a field of a record's line
 fn put(lines: &[u16; NUMBERS], facts: &mut [u32; FACTS], n: Record, k: usize, v: Record)
-    requires { k < WIDTH }
+    requires { k < width_of_memory }
     ensures { facts.new ≡ put_field lines.now facts.old n.number k v.number }
 {
     let l = line_of(lines, n);
@@ -277,7 +282,7 @@ fn put(lines: &[u16; NUMBERS], facts: &mut [u32; FACTS], n: Record, k: usize, v:
 fn hang(lines: &[u16; NUMBERS], facts: &mut [u32; FACTS], n: Record, r: Record, p: Record)
     ensures { facts.new ≡ put_field lines.now
         (put_field lines.now facts.old (who r.number p.number) (way p.number) n.number)
-        r.number LAST n.number }
+        r.number last_of_memory n.number }
 {
     let w = who(r, p);
     let k = way(p);
@@ -295,10 +300,10 @@ pub fn add_line(
     start: u32,
     long: u32,
 )
-    requires { (l < ROOM) × (n.number < NUMBERS) }
+    requires { (l < room_of_memory) × (n.number < numbers_of_memory) }
     ensures lines_after { lines.new ≡ add_line lines.old l n.number }
     ensures facts_after { facts.new ≡ add_facts (add_line lines.old l n.number) facts.old l n.number r.number
-        (field lines.old facts.old r.number LAST) start long }
+        (field lines.old facts.old r.number last_of_memory) start long }
 {
     let p = record_in(lines, facts, r, LAST);
     lines[n.number as usize] = l as u16;

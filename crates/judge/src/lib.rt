@@ -3,7 +3,7 @@
 #![tactic(auto)]
 
 ghost use Rattle.std.specs.Prelude.{◌≡◌, map, ℕ, ◌<◌, length, get_or};
-ghost use Rattle.facts.specs.Memory.{ROOM, TABLES, no_lines, no_facts};
+ghost use Rattle.facts.specs.Memory.{ROOM as room_of_memory, TABLES as tables_of_memory, no_lines, no_facts};
 ghost use Rattle.contents.specs.Marks.{Lined, Marked, Noted};
 ghost use Rattle.judge.specs.Judged.{told, first_clash, Judges};
 
@@ -63,14 +63,15 @@ pub fn judge<'a>(
     ls: &mut [u16; NUMBERS],
     fs: &mut [u32; FACTS],
 ) -> Judged
-    requires by_index { ((k : ℕ) → k < TABLES → get_or counts.now k 0 < ROOM) × (length texts.now ≡ TABLES) }
+    requires by_index { ((k : ℕ) → k < tables_of_memory → get_or counts.now k 0 < room_of_memory)
+        × (length texts.now ≡ tables_of_memory) }
     requires ls_value { (ls.old ≡ no_lines) × (fs.old ≡ no_facts) }
     requires lined { Lined lines.now facts.now counts.now }
     requires marked { Marked (map (λ x. x.now) texts.now) lines.now facts.now counts.now marks.now }
     requires noted { Noted (map (λ x. x.now) texts.now) lines.now facts.now marks.now }
     ensures judges { Judges (map (λ x. x.now) texts.now) lines.now facts.now counts.now
         ls.new fs.new result }
-    ensures count_bound { result.count < ROOM }
+    ensures count_bound { result.count < room_of_memory }
 {
     let least = least_clashes(texts, lines, facts, marks, counts);
     let clash = first_clash(least);

@@ -18,7 +18,8 @@ use Rattle.ledger.specs.Entries.{entry_at, entry_on, entries_in, entries_to}
 module _ (ls fs : List ℕ) where
   -- a table's entries, by its records
   entries_in_lem : (t : List Row) → entries_in ls fs t ≡ map (entry_at ls fs) (numbers_in (tree_of t))
-  entries_in_lem t = sym (map-map (entry_at ls fs) number_of (rows TOP (tree_of t))) ∙ ap (map (entry_at ls fs)) (numbers-rows TOP (tree_of t))
+  entries_in_lem t = sym (map-map (entry_at ls fs) number_of (rows TOP (tree_of t)))
+      ∙ ap (map (entry_at ls fs)) (numbers-rows TOP (tree_of t))
 
   module _ (t : List Row) (h : Holds ls fs t) where
     -- the record on a line has the entry of the line

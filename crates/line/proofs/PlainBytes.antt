@@ -75,7 +75,8 @@ pub run_stops : (s : List ℕ) → plain (get_or s (plain_run s) LF) ≡ false
 run_stops [] = refl
 run_stops (x ∷ s) = go (plain x) refl (run_stops s)
   where
-    go : (u : Bool) → plain x ≡ u → plain (get_or s (plain_run s) LF) ≡ false → plain (get_or (x ∷ s) (cond u (suc (plain_run s)) 0) LF) ≡ false
+    go : (u : Bool) → plain x ≡ u → plain (get_or s (plain_run s) LF) ≡ false
+        → plain (get_or (x ∷ s) (cond u (suc (plain_run s)) 0) LF) ≡ false
     go true q h = h
     go false q h = q
 

@@ -1,6 +1,7 @@
 -- The parts of one line, and how its content's fields are looked at. s is what is left of a text, l a line without its LF, x a byte, y
 -- the byte before it. Assumes nothing.
-use Rattle.std.specs.Prelude.{Bool, true, false, cond, not, ◌&&◌, ◌||◌, List, [], ◌∷◌, ℕ, zero, suc, ◌+◌, ◌-◌, eqb, leb, ltb, length, take, drop}
+use Rattle.std.specs.Prelude.{Bool, true, false, cond, not, ◌&&◌, ◌||◌, List, [], ◌∷◌, ℕ, zero, suc, ◌+◌, ◌-◌, eqb, leb, ltb, length}
+use Rattle.std.specs.Prelude.{take, drop}
 use Rattle.rules.specs.Codes.{accepted, byte_not_allowed, few_tabs}
 use Rattle.rules.specs.Limits.{CONTENT}
 use Rattle.rules.specs.Lists.{every}

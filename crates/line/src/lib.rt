@@ -6,7 +6,8 @@ ghost use Rattle.std.specs.Prelude.{true, not, ◌&&◌, [], ◌∷◌, ◌≡�
 ghost use Rattle.rules.specs.Text.{TAB as tab, LF as line_feed, before};
 ghost use Rattle.text.specs.Reads.{byte_at};
 ghost use Rattle.line.specs.Told.{faulty as faulty_of, next_line, reached_from, line_of, moved_on};
-ghost use Rattle.line.specs.Parts.{short_fault, fields_from, good_after, good_bytes, good_from, fields_at, content_fits, no_parts, parts_of};
+ghost use Rattle.line.specs.Parts.{short_fault, fields_from, good_after, good_bytes, good_from, fields_at};
+ghost use Rattle.line.specs.Parts.{content_fits, no_parts, parts_of};
 
 use rules::codes::{ACCEPTED, BAD_CONTENT, BAD_NUMBER, BAD_PARENT, BYTE_NOT_ALLOWED, FEW_TABS};
 use rules::limits::{CONTENT, GREATEST};

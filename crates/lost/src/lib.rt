@@ -5,7 +5,7 @@
 
 ghost use Rattle.std.specs.Prelude.{◌≡◌, [], map, ℕ, ◌<◌, get_or};
 ghost use Rattle.rules.specs.Marks.{START};
-ghost use Rattle.facts.specs.Memory.{ROOM, TABLES};
+ghost use Rattle.facts.specs.Memory.{ROOM as room_of_memory, TABLES as tables_of_memory};
 ghost use Rattle.facts.specs.Asked.{has_in, asked};
 ghost use Rattle.edits.specs.Memory.{ask, number_on};
 ghost use Rattle.contents.specs.Memory.{tell};
@@ -27,7 +27,7 @@ fn lost_after(
     r: Record,
     p: Record,
 ) -> bool
-    requires { t < TABLES }
+    requires { t < tables_of_memory }
     ensures { result ≡ lost_after (ask lines.now facts.now) (asked ls.now fs.now) t
         r.number p.number }
 {
@@ -49,7 +49,7 @@ fn lost_position(
     t: usize,
     n: Record,
 ) -> u32
-    requires { t < TABLES }
+    requires { t < tables_of_memory }
     ensures { result ≡ lost_position (ask lines.now facts.now) (asked ls.now fs.now) t n.number }
 {
     let r = parent_in(lines, facts, t, n);
@@ -70,7 +70,7 @@ fn lost_content<'a>(
     t: usize,
     n: Record,
 ) -> u32
-    requires t_nonzero { (0 < t) × (t < TABLES) }
+    requires t_nonzero { (0 < t) × (t < tables_of_memory) }
     requires noted { Noted (map (λ x. x.now) texts.now) lines.now facts.now marks.now }
     ensures { result ≡ lost_content (tell (map (λ x. x.now) texts.now) lines.now facts.now) (has_in ls.now) t
         n.number }
@@ -93,7 +93,7 @@ fn lost_on<'a>(
     t: usize,
     i: usize,
 ) -> u32
-    requires t_nonzero { ((0 < t) × (t < TABLES)) × (i < ROOM) }
+    requires t_nonzero { ((0 < t) × (t < tables_of_memory)) × (i < room_of_memory) }
     requires noted { Noted (map (λ x. x.now) texts.now) lines.now facts.now marks.now }
     requires i_bound { number_on facts.now t i < START }
     requires i_value { get_or (get_or marks.now t []) i 0 ≡ mark_on (map (λ x. x.now) texts.now) lines.now facts.now t i }
@@ -120,7 +120,7 @@ fn lost_in<'a>(
     t: usize,
     count: usize,
 ) -> u32
-    requires t_nonzero { ((0 < t) × (t < TABLES)) × (count < ROOM) }
+    requires t_nonzero { ((0 < t) × (t < tables_of_memory)) × (count < room_of_memory) }
     requires noted { Noted (map (λ x. x.now) texts.now) lines.now facts.now marks.now }
     requires lined_table { LinedTable (get_or lines.now t []) (get_or facts.now t []) count }
     requires marked_table { MarkedTable (map (λ x. x.now) texts.now) lines.now facts.now t count (get_or marks.now t []) }
@@ -149,7 +149,7 @@ pub fn least_lost<'a>(
     ls: &[u16; NUMBERS],
     fs: &[u32; FACTS],
 ) -> u32
-    requires by_index { (k : ℕ) → k < TABLES → get_or counts.now k 0 < ROOM }
+    requires by_index { (k : ℕ) → k < tables_of_memory → get_or counts.now k 0 < room_of_memory }
     requires lined { Lined lines.now facts.now counts.now }
     requires marked { Marked (map (λ x. x.now) texts.now) lines.now facts.now counts.now marks.now }
     ensures { result ≡ all_lost (map (λ x. x.now) texts.now) lines.now facts.now

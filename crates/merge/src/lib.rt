@@ -4,7 +4,7 @@
 
 ghost use Rattle.std.specs.Prelude.{◌≡◌, map, length};
 ghost use Rattle.rules.specs.Calls.{told};
-ghost use Rattle.facts.specs.Memory.{TABLES};
+ghost use Rattle.facts.specs.Memory.{TABLES as tables_of_memory};
 ghost use Rattle.merge.specs.Merging.{Ready, MergesTables};
 
 use contents::marks::mark_branches;
@@ -35,7 +35,7 @@ pub fn merge_tables<'a>(
     table: &mut [u8],
     ledger: &mut [u8],
 ) -> Merged
-    requires { Ready (map (λ x. x.now) texts.now) lines.now facts.now counts.now × (length texts.now ≡ TABLES) }
+    requires { Ready (map (λ x. x.now) texts.now) lines.now facts.now counts.now × (length texts.now ≡ tables_of_memory) }
     ensures { MergesTables (map (λ x. x.now) texts.now) lines.now facts.now counts.now
         table.old ledger.old result table.new ledger.new }
 {

@@ -46,7 +46,8 @@ flat_few (t ∷ tables) h =
 -- ---- the steps
 
 module _ (q : ℕ → Asked) (old : Facts) (branches : List Facts) (w : Views q old branches) (known : List ℕ)
-    (from : (n : ℕ) → n ∈ known → (k : ℕ) × IsBranch k × T ((q k).has n)) (into : (k n : ℕ) → IsBranch k → T ((q k).has n) → n ∈ known) where
+    (from : (n : ℕ) → n ∈ known → (k : ℕ) × IsBranch k × T ((q k).has n)) (into : (k n : ℕ) → IsBranch k → T ((q k).has n) → n ∈ known)
+        where
   -- a branch knows the place
   abbrev Place : ℕ → ℕ → Type 0
   Place r p = (k : ℕ) × IsBranch k × T (knows (q k).has r p)

@@ -6,7 +6,7 @@
 
 ghost use Rattle.std.specs.Prelude.{◌≡◌, ◌&&◌, map, ◌<◌, ◌-◌, ltb};
 ghost use Rattle.rules.specs.Marks.{is_record};
-ghost use Rattle.facts.specs.Memory.{NUMBERS, ROOM};
+ghost use Rattle.facts.specs.Memory.{NUMBERS as numbers_of_memory, ROOM as room_of_memory};
 ghost use Rattle.contents.specs.Marks.{Noted};
 ghost use Rattle.merged.specs.Laying.{RecordLaid, LaidDown};
 ghost use Rattle.merged.specs.Memory.{kept_next, kept_part};
@@ -25,7 +25,7 @@ pub struct LaidOut {
 
 // Whether a record follows, and there is a line for it behind the first `count`.
 fn follows(s: Record, count: usize) -> bool
-    ensures { result ≡ (is_record s.number && ltb count (ROOM - 1)) }
+    ensures { result ≡ (is_record s.number && ltb count (room_of_memory - 1)) }
 {
     if s.is_record() {
         return count < ROOM - 1;
@@ -45,7 +45,7 @@ fn lay_record<'a>(
     s: Record,
     r: Record,
 )
-    requires l_bound { (l < ROOM) × (s.number < NUMBERS) }
+    requires l_bound { (l < room_of_memory) × (s.number < numbers_of_memory) }
     requires noted { Noted (map (λ x. x.now) texts.now) lines.now facts.now marks.now }
     ensures { RecordLaid (kept_part (map (λ x. x.now) texts.now) lines.now facts.now)
         ls.old fs.old ls.new fs.new l s.number r.number }
@@ -69,7 +69,7 @@ pub fn lay_down<'a>(
     ensures laid_down { LaidDown (kept_next lines.now facts.now)
         (kept_part (map (λ x. x.now) texts.now) lines.now facts.now)
         ls.old fs.old ls.new fs.new result.count result.broken }
-    ensures count_bound { result.count < ROOM }
+    ensures count_bound { result.count < room_of_memory }
 {
     let mut count: usize = 0;
     let mut broken = NONE;

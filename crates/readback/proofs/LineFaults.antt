@@ -20,7 +20,8 @@ use Rattle.rules.specs.Text.{TAB, allowed, count, before, after, decimal, value,
 use Rattle.rules.specs.Line.{Row, number_part, parent_part, content_part, row_of, number_ok, parent_ok}
 use Rattle.rules.specs.Table.{numbers, stands, fault}
 use Rattle.rules.specs.Written.{digits}
-use Rattle.rules.specs.UnreadableText.{Parts, EmptyField, Fault, line513, bad_byte, few_tabs, bad_number, bad_parent, bad_content, number_twice}
+use Rattle.rules.specs.UnreadableText.{Parts, EmptyField, Fault, line513, bad_byte, few_tabs, bad_number, bad_parent, bad_content}
+use Rattle.rules.specs.UnreadableText.{number_twice}
 use Rattle.rules.specs.UnreadableText.{parent_missing}
 use Rattle.trees.proofs.Marks.{record_low, record_high}
 use Rattle.readback.proofs.Splitting.{every_in, before_at, after-at, rejoin, count-after}

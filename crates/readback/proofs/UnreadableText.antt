@@ -20,7 +20,8 @@ use Rattle.rules.specs.Text.{LF, count, onto, lines, last, ended}
 use Rattle.rules.specs.Line.{Row, row_of}
 use Rattle.rules.specs.Table.{fault, unreadable, read_lines, verdict}
 use Rattle.rules.specs.Written.{body, written}
-use Rattle.rules.specs.UnreadableText.{Fault, line513, bad_byte, few_tabs, bad_number, bad_parent, bad_content, number_twice, parent_missing}
+use Rattle.rules.specs.UnreadableText.{Fault, line513, bad_byte, few_tabs, bad_number, bad_parent, bad_content, number_twice}
+use Rattle.rules.specs.UnreadableText.{parent_missing}
 use Rattle.rules.specs.UnreadableText.{FirstFault, EndsIn, Refused, too_long, unended, on_line}
 use Rattle.readback.proofs.Splitting.{last-append, lines_at, ended_line, joined, lines-joined}
 use Rattle.readback.proofs.Following.{Good}

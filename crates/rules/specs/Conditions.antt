@@ -134,7 +134,8 @@ module _ (old : Facts) (branches : List Facts) where
     content_clash_lem : {n : ℕ} → Least ContentClash n → Refusal content_clash n
     parent_clash_lem : {n : ℕ} → Nowhere ContentClash → Least ParentClash n → Refusal parent_clash n
     neighbour_clash_lem : {r : ℕ} → Nowhere ContentClash → Nowhere ParentClash → Least NeighbourClash r → Refusal neighbour_clash r
-    broken_list_lem : {r : ℕ} → Nowhere ContentClash → Nowhere ParentClash → Nowhere NeighbourClash → Least BrokenList r → Refusal broken_list r
+    broken_list_lem : {r : ℕ} → Nowhere ContentClash → Nowhere ParentClash → Nowhere NeighbourClash → Least BrokenList r
+        → Refusal broken_list r
     lost_edit_lem : {n : ℕ} → Nowhere ContentClash → Nowhere ParentClash → Nowhere NeighbourClash → Nowhere BrokenList → Least LostEdit n
         → Refusal lost_edit n
 

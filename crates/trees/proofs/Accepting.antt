@@ -15,7 +15,8 @@ use Rattle.rules.specs.Lists.{◌∈◌, any, flat}
 use Rattle.rules.specs.Marks.{START, TOP, is_record}
 use Rattle.rules.specs.Tree.{STEPS, Tree}
 use Rattle.rules.specs.Facts.{ContentFact, Facts, ParentGiven, PositionFact, contents_disagree, contents_of, lacking, neighbours_disagree}
-use Rattle.rules.specs.Facts.{parents_differ, positions_of, parents_disagree, parents_given, positions_disagree, same_content, same_content_fact}
+use Rattle.rules.specs.Facts.{parents_differ, positions_of, parents_disagree, parents_given, positions_disagree, same_content}
+use Rattle.rules.specs.Facts.{same_content_fact}
 use Rattle.rules.specs.Facts.{same_position, tree_contents, tree_positions}
 use Rattle.rules.specs.Merge.{Result, broken_lists, content_clashes, content_edits, content_in, follower, kept_contents, kept_positions}
 use Rattle.rules.specs.Merge.{lost_edits, merge, merged, merged_tree, neighbour_clashes, parent_clashes, position_edits, refuse}
@@ -184,6 +185,7 @@ module _ (old : Facts) (branches : List Facts) (sound : (t : Facts) → t ∈ ol
   pub merged_answers : (f : Tree) → merge old branches ≡ merged f → Answers old branches f
   unfolding merge
   merged_answers f e =
-      let v = all_none (content_clashes old branches) (parent_clashes old branches) (neighbour_clashes old branches) (broken_lists old branches)
+      let v = all_none (content_clashes old branches) (parent_clashes old branches) (neighbour_clashes old branches)
+          (broken_lists old branches)
       (lost_edits old branches) (merged_tree old branches) f e in
       subst (Answers old branches) v.5 (answers v.1 v.2 v.3 v.4)

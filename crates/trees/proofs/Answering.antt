@@ -11,7 +11,8 @@ use Rattle.rules.specs.Lists.{◌∈◌, any, flat}
 use Rattle.rules.specs.Marks.{START, TOP, is_record}
 use Rattle.rules.specs.Tree.{STEPS, Tree}
 use Rattle.rules.specs.Facts.{ContentFact, Facts, ParentGiven, PositionFact, contents_disagree, contents_of, neighbours_disagree}
-use Rattle.rules.specs.Facts.{parents_differ, positions_of, parents_disagree, parents_given, positions_disagree, tree_contents, tree_positions}
+use Rattle.rules.specs.Facts.{parents_differ, positions_of, parents_disagree, parents_given, positions_disagree, tree_contents}
+use Rattle.rules.specs.Facts.{tree_positions}
 use Rattle.rules.specs.Merge.{Result, broken_lists, content_clashes, content_edits, content_in, follower, kept_contents, kept_positions}
 use Rattle.rules.specs.Merge.{lost_edits, merge, merged, merged_tree, neighbour_clashes, parent_clashes, position_edits, refuse}
 use Rattle.rules.specs.Demands.{Answers}

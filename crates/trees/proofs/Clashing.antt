@@ -13,7 +13,8 @@ use Rattle.rules.specs.Lists.{◌∈◌, any, flat}
 use Rattle.rules.specs.Facts.{ContentFact, Facts, ParentGiven, PositionFact, contents_disagree, contents_of, disagreeing, edits, kept}
 use Rattle.rules.specs.Facts.{neighbours_disagree, parent_given, parents_differ, parents_disagree, parents_given, positions_disagree}
 use Rattle.rules.specs.Facts.{positions_of, same_content}
-use Rattle.rules.specs.Merge.{content_clashes, content_edits, kept_contents, kept_positions, neighbour_clashes, parent_clashes, position_edits}
+use Rattle.rules.specs.Merge.{content_clashes, content_edits, kept_contents, kept_positions, neighbour_clashes, parent_clashes}
+use Rattle.rules.specs.Merge.{position_edits}
 use Rattle.rules.specs.Conditions.{ContentClash, ContentEdit, ContentsDisagree, DifferentContents, DifferentFollowers}
 use Rattle.rules.specs.Conditions.{DifferentForerunners, DifferentNeighbours, DifferentParents, Edit, GivesParent, Kept, KeptContent}
 use Rattle.rules.specs.Conditions.{KeptPosition, NeighbourClash, Nowhere, ParentClash, PositionEdit, PositionsDisagree}

@@ -21,7 +21,8 @@ use Rattle.rules.specs.Facts.{Facts, PositionFact, facts_of, list_facts, parent_
 use Rattle.rules.specs.Merge.{position_edits}
 use Rattle.rules.specs.Demands.{Readable}
 use Rattle.rules.specs.Conditions.{ContentClash, KeptPosition, LostEdit, Met, NeighbourClash, ParentClash, PositionEdit, PositionsDisagree}
-use Rattle.rules.specs.Conditions.{RecordOf, Refusal, TopOrRecordOf, begin, on, under, content_clash_lem, parent_clash_lem, neighbour_clash_lem}
+use Rattle.rules.specs.Conditions.{RecordOf, Refusal, TopOrRecordOf, begin, on, under, content_clash_lem, parent_clash_lem}
+use Rattle.rules.specs.Conditions.{neighbour_clash_lem}
 use Rattle.rules.specs.Conditions.{broken_list_lem, lost_edit_lem}
 use Rattle.trees.proofs.Kept.{old-or_edit}
 use Rattle.trees.proofs.Disagreeing.{position_tells}

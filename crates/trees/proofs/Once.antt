@@ -38,7 +38,8 @@ module _ (f : Tree) (agree : RecordsAgree f) (valid : (n : ℕ) → n ∈ number
   positions_of_lem : {way : List Bool} {r p : ℕ} {part : Tree} → Hangs f way r p part
       → (a : PositionFact) → a ∈ tree_positions r p part → a ∈ tree_positions TOP START f
   positions_of_lem top a m = m
-  positions_of_lem (down {r = r} {n = n} {after = after} h) a m = positions_of_lem h a (there (Memᴰ.append_left (tree_positions r n after) m))
+  positions_of_lem (down {r = r} {n = n} {after = after} h) a m =
+      positions_of_lem h a (there (Memᴰ.append_left (tree_positions r n after) m))
   positions_of_lem (aside {n = n} {below = below} h) a m = positions_of_lem h a (there (Memᴰ.append_right (tree_positions n START below) m))
 
   numbers_of : {way : List Bool} {r p : ℕ} {part : Tree} → Hangs f way r p part → (n : ℕ) → n ∈ numbers_in part → n ∈ numbers_in f
@@ -46,7 +47,8 @@ module _ (f : Tree) (agree : RecordsAgree f) (valid : (n : ℕ) → n ∈ number
   numbers_of (down {after = after} h) n m = numbers_of h n (there (Memᴰ.append_left (numbers_in after) m))
   numbers_of (aside {below = below} h) n m = numbers_of h n (there (Memᴰ.append_right (numbers_in below) m))
 
-  is_record_lem : {way : List Bool} {r p n : ℕ} {c : Content} {below after : Tree} → Hangs f way r p (node n c below after) → T (is_record n)
+  is_record_lem : {way : List Bool} {r p n : ℕ} {c : Content} {below after : Tree} → Hangs f way r p (node n c below after)
+      → T (is_record n)
   is_record_lem {n = n} h = valid n (numbers_of h n (here refl))
 
   gives_after : (r p n : ℕ) → T (is_record n) → parent_given n r ∈ parents_given (position r p n)

@@ -73,7 +73,8 @@ list_not_back r n ns a once no_end e m = go (list_after r n ns a m)
     go (inl d) = no_end (here (sym d ∙ e))
     go (inr k) = once.0 (Memᴰ.cast (sym e) k)
 
-list_one_before : (r p : ℕ) (ns : List ℕ) (a b : PositionFact) → NoneTwice ns → (END ∈ ns → ⊥) → a ∈ list_facts r p ns → b ∈ list_facts r p ns
+list_one_before : (r p : ℕ) (ns : List ℕ) (a b : PositionFact) → NoneTwice ns → (END ∈ ns → ⊥) → a ∈ list_facts r p ns
+    → b ∈ list_facts r p ns
     → a.after ≡ b.after → a.before ≡ b.before
 list_one_before r p [] a b once no_end (here d) (here e) q = ap before_of (d ∙ sym e)
 list_one_before r p [] a b once no_end (there m) k q = absurd (Memᴰ.not-nil m)

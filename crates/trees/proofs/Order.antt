@@ -18,9 +18,11 @@ use Rattle.rules.specs.Marks.{START, TOP}
 use Rattle.rules.specs.Line.{Content}
 use Rattle.rules.specs.Tree.{STEPS, Tree}
 use Rattle.rules.specs.Facts.{ContentFact, Facts, ParentGiven, PositionFact, contents_disagree, contents_of, disagreeing, edits, kept}
-use Rattle.rules.specs.Facts.{lacking, positions_of, neighbours_disagree, parents_differ, parents_given, positions_disagree, same_content_fact}
+use Rattle.rules.specs.Facts.{lacking, positions_of, neighbours_disagree, parents_differ, parents_given, positions_disagree}
+use Rattle.rules.specs.Facts.{same_content_fact}
 use Rattle.rules.specs.Facts.{same_position, tree_contents, tree_positions}
-use Rattle.rules.specs.Merge.{Result, broken_lists, content_clashes, content_edits, content_in, follower, goes_on, kept_contents, kept_positions}
+use Rattle.rules.specs.Merge.{Result, broken_lists, content_clashes, content_edits, content_in, follower, goes_on, kept_contents}
+use Rattle.rules.specs.Merge.{kept_positions}
 use Rattle.rules.specs.Merge.{least, lost_edits, merge, merged, merged_tree, neighbour_clashes, or_empty, parent_clashes, position_edits}
 use Rattle.rules.specs.Merge.{refuse, refused, walk}
 use Rattle.trees.proofs.Lists.{any_in, any_out, keep_in, keep_out}
@@ -118,7 +120,8 @@ module _ (old : Facts) (branches others : List Facts) (h : Sub branches others) 
   content_clashes_sub : Sub (content_clashes old branches) (content_clashes old others)
   unfolding content_clashes
   content_clashes_sub =
-      map-sub record_of (disagreeing contents_disagree (content_edits old branches)) (disagreeing contents_disagree (content_edits old others))
+      map-sub record_of (disagreeing contents_disagree (content_edits old branches))
+          (disagreeing contents_disagree (content_edits old others))
       (disagreeing-sub contents_disagree (content_edits old branches) (content_edits old others) content-edits-sub)
 
   abbrev given : List Facts → List ParentGiven

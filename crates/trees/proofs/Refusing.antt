@@ -19,7 +19,8 @@ use Rattle.rules.specs.Merge.{Result, broken_lists, content_clashes, kept_positi
 use Rattle.rules.specs.Merge.{neighbour_clashes, parent_clashes, refuse, refused}
 use Rattle.rules.specs.Demands.{Readable}
 use Rattle.rules.specs.Conditions.{BrokenList, ContentClash, ContentEdit, Edit, KeptPosition, Least, LostEdit, NeighbourClash, Nowhere}
-use Rattle.rules.specs.Conditions.{ParentClash, RecordOf, Refusal, Somewhere, content_clash_lem, parent_clash_lem, neighbour_clash_lem, broken_list_lem}
+use Rattle.rules.specs.Conditions.{ParentClash, RecordOf, Refusal, Somewhere, content_clash_lem, parent_clash_lem, neighbour_clash_lem}
+use Rattle.rules.specs.Conditions.{broken_list_lem}
 use Rattle.rules.specs.Conditions.{lost_edit_lem}
 use Rattle.trees.proofs.Kept.{Coherent}
 use Rattle.trees.proofs.Disagreeing.{record_of}
@@ -161,7 +162,8 @@ module _ (old : Facts) (branches : List Facts) where
 
     refusal_verdict : (code n : ℕ) → Refusal old branches code n → from21 ≡ refused code n
     refusal_verdict _ n (content_clash_lem l) = refuse-least (ContentClash old branches) content_clash contents from22 n places21 l
-    refusal_verdict _ n (parent_clash_lem n21 l) = pass21 n21 ∙ refuse-least (ParentClash old branches) parent_clash parents from23 n places22 l
+    refusal_verdict _ n (parent_clash_lem n21 l) = pass21 n21
+        ∙ refuse-least (ParentClash old branches) parent_clash parents from23 n places22 l
     refusal_verdict _ n (neighbour_clash_lem n21 n22 l) =
         pass21 n21 ∙ pass22 n22 ∙ refuse-least (NeighbourClash old branches) neighbour_clash neighbours from24 n places23 l
     refusal_verdict _ n (broken_list_lem n21 n22 n23 l) =
@@ -242,9 +244,11 @@ module _ (old : List Row) (branches : List (List Row)) (ok : (t : List Row) → 
   pub refused_exactly : (code n : ℕ) → (merge O B ≡ refused code n) ↔ Refusal O B code n
   unfolding merge
   refused_exactly code n = (
-    verdict_refusal O B (content_clashes O B) (parent_clashes O B) (neighbour_clashes O B) (broken_lists O B) (lost_edits O B) (merged_tree O B)
+    verdict_refusal O B (content_clashes O B) (parent_clashes O B) (neighbour_clashes O B) (broken_lists O B) (lost_edits O B)
+        (merged_tree O B)
         (content_places O B) (parent_places O B) (neighbour_places O B) broken lost code n,
-    refusal_verdict O B (content_clashes O B) (parent_clashes O B) (neighbour_clashes O B) (broken_lists O B) (lost_edits O B) (merged_tree O B)
+    refusal_verdict O B (content_clashes O B) (parent_clashes O B) (neighbour_clashes O B) (broken_lists O B) (lost_edits O B)
+        (merged_tree O B)
         (content_places O B) (parent_places O B) (neighbour_places O B) broken lost code n,
   )
 

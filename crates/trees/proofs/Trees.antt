@@ -14,7 +14,8 @@ use Rattle.rules.specs.Marks.{START, TOP}
 use Rattle.rules.specs.Line.{Content, Row}
 use Rattle.rules.specs.Table.{numbers}
 use Rattle.rules.specs.Tree.{Tree, child_numbers, children_of, empty, node, numbers_in, rows}
-use Rattle.rules.specs.Facts.{ContentFact, PositionFact, content_fact, content_of, contents_disagree, facts_of, list_facts, positions_disagree}
+use Rattle.rules.specs.Facts.{ContentFact, PositionFact, content_fact, content_of, contents_disagree, facts_of, list_facts}
+use Rattle.rules.specs.Facts.{positions_disagree}
 use Rattle.rules.specs.Facts.{tree_contents, tree_positions}
 use Rattle.rules.specs.Demands.{Distinct, IsTree}
 use Rattle.trees.proofs.Lists.{keep_append, put_no, put_yes}

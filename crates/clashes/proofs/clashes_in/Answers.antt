@@ -20,8 +20,13 @@ bounds-marks-t c = search steps
 
 pub clashes_on-at-requires : goal.clashes_on-at-requires
 clashes_on-at-requires c =
-    let s = c in
-    let here = c.loop-i-test.true in record { t_nonzero = search steps; noted = s.requires.noted; i_bound = s.requires.lined_table.low _ here; i_value = s.requires.marked_table.on _ here }
+    let here = c.loop-i-test.true in
+    record {
+      t_nonzero = search steps;
+      noted = c.requires.noted;
+      i_bound = c.requires.lined_table.low _ here;
+      i_value = c.requires.marked_table.on _ here;
+    }
 
 pub lesser-least-requires : goal.lesser-least-requires
 lesser-least-requires c = search steps
@@ -34,18 +39,16 @@ loop-i-smaller c = search steps
 
 pub loop-i-preserved : goal.loop-i-preserved
 loop-i-preserved c =
-    let test = c in
-    let from = test in
-    let s = from.args in
+    let s = c.args in
     let texts : List (List ℕ) = map (λ x. x.now) s.texts.now in
     let f : ℕ → Clashes = clashes_on texts s.lines.now s.facts.now s.t in
-    let so_far = test.loop-i.invariant.1 in
-    let here = test.loop-i-test.true in (
+    let so_far = c.loop-i.invariant.1 in
+    let here = c.loop-i-test.true in (
       omega (arith, here),
       elim c.if-marks-t-ne0.branch [
         | then-marks-t-ne0 u ↦ u.least-is ∙ least_on f _ _ _ _ so_far u.clashes_on-at.ensures u.lesser-least.ensures
         | else-marks-t-ne0 u ↦ u.least-is ∙ least_skip f _ _ so_far
-            (nothing_new texts s.lines.now s.facts.now s.t _ _ (from.requires.lined_table.low _ here) (from.requires.marked_table.on _ here)
+            (nothing_new texts s.lines.now s.facts.now s.t _ _ (c.requires.lined_table.low _ here) (c.requires.marked_table.on _ here)
             u.if-marks-t-ne0.false)
       ],
     )

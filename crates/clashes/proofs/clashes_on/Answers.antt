@@ -21,9 +21,8 @@ bounds-marks-t c = search rules
 
 pub returns-then-marks-t-lt2 : goal.returns-then-marks-t-lt2
 returns-then-marks-t-lt2 c =
-    let from = c in
-    let s = from.args in
-    content_only (map (λ x. x.now) s.texts.now) s.lines.now s.facts.now s.t s.i _ from.requires.i_bound from.requires.i_value _ _
+    let s = c.args in
+    content_only (map (λ x. x.now) s.texts.now) s.lines.now s.facts.now s.t s.i _ c.requires.i_bound c.requires.i_value _ _
     c.if-marks-t-lt2.true c.number_in-n.ensures c.content_place-content.ensures
 
 pub parent_place-parent-requires : goal.parent_place-parent-requires
@@ -34,8 +33,7 @@ neighbour_place-neighbour-requires c = search rules
 
 pub returns : goal.returns
 returns c =
-    let content = c in
-    let s = content.args in
+    let s = c.args in
     clashes_are (ask s.lines.now s.facts.now) (tell (map (λ x. x.now) s.texts.now) s.lines.now s.facts.now) _ _ _ _ _ _
-    content.number_in-n.ensures content.content_place-content.ensures c.parent_place-parent.ensures
+    c.number_in-n.ensures c.content_place-content.ensures c.parent_place-parent.ensures
     c.neighbour_place-neighbour.ensures

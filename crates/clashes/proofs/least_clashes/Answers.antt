@@ -19,12 +19,17 @@ bounds-counts-t c = search steps
 
 pub clashes_in-in_branch-requires : goal.clashes_in-in_branch-requires
 clashes_in-in_branch-requires c =
-    let from = c in
-    let s = from.args in
+    let s = c.args in
     let low = c.loop-t.invariant.0 in
     let high = c.loop-t-test.true in
-    let note = noted (map (λ x. x.now) s.texts.now) s.lines.now s.facts.now s.counts.now from.requires.lined s.marks.now
-    from.requires.marked in record { t_nonzero = ((low, high), (from.requires.by_index.0 _ high, from.requires.by_index.1)); noted = note; lined_table = from.requires.lined.tables _ high; marked_table = from.requires.marked.branches _ low high }
+    let note = noted (map (λ x. x.now) s.texts.now) s.lines.now s.facts.now s.counts.now c.requires.lined s.marks.now
+    c.requires.marked in
+    record {
+      t_nonzero = ((low, high), (c.requires.by_index.0 _ high, c.requires.by_index.1));
+      noted = note;
+      lined_table = c.requires.lined.tables _ high;
+      marked_table = c.requires.marked.branches _ low high;
+    }
 
 pub lesser-least-requires : goal.lesser-least-requires
 lesser-least-requires c = search steps
@@ -37,13 +42,12 @@ loop-t-smaller c = search steps
 
 pub loop-t-preserved : goal.loop-t-preserved
 loop-t-preserved c =
-    let loop = c in
-    let s = loop.args in
+    let s = c.args in
     let branch : ℕ → Clashes = λ t. clashes_in (map (λ x. x.now) s.texts.now) s.lines.now s.facts.now t
     (get_or s.counts.now t 0) in (
       omega arith,
       omega (arith, c.loop-t-test.true),
-      branch_on branch _ _ _ _ loop.loop-t.invariant.0 loop.loop-t.invariant.2 c.clashes_in-in_branch.ensures c.lesser-least.ensures,
+      branch_on branch _ _ _ _ c.loop-t.invariant.0 c.loop-t.invariant.2 c.clashes_in-in_branch.ensures c.lesser-least.ensures,
     )
 
 pub returns : goal.returns

@@ -41,4 +41,10 @@ loop-t-preserved c =
     ]
 
 pub returns : goal.returns
-returns c = record { table_value = search seeks; table_bound = search seeks; origin_value = search seeks; origin_bound = search seeks }
+returns c =
+    record {
+      table_value = search seeks;
+      table_bound = search seeks;
+      origin_value = search seeks;
+      origin_bound = search seeks;
+    }

@@ -12,11 +12,9 @@ content_source-source-requires c = search rules
 
 pub returns-then-k-t : goal.returns-then-k-t
 returns-then-k-t c =
-    let edit = c in
-    let from = edit in
-    let s = from.args in
-    two-first (map (λ x. x.now) s.texts.now) s.lines.now s.facts.now s.marks.now from.requires.noted s.n.number s.t
-    from.requires.t_nonzero.0.0 from.requires.t_nonzero.0.1 _ edit.edited.ensures _ c.if-edited.true
+    let s = c.args in
+    two-first (map (λ x. x.now) s.texts.now) s.lines.now s.facts.now s.marks.now c.requires.noted s.n.number s.t
+    c.requires.t_nonzero.0.0 c.requires.t_nonzero.0.1 _ c.edited.ensures _ c.if-edited.true
     c.content_source-source.ensures.table_value c.if-k-t.true
 
 pub same_in-requires : goal.same_in-requires
@@ -24,16 +22,13 @@ same_in-requires c = search rules
 
 pub returns-then-edited : goal.returns-then-edited
 returns-then-edited c =
-    let edit = c in
-    let from = edit in
-    let s = from.args in
-    two-asked (map (λ x. x.now) s.texts.now) s.lines.now s.facts.now s.marks.now from.requires.noted s.n.number s.t
-    from.requires.t_nonzero.0.0 from.requires.t_nonzero.0.1 _ edit.edited.ensures _ _ c.if-edited.true
+    let s = c.args in
+    two-asked (map (λ x. x.now) s.texts.now) s.lines.now s.facts.now s.marks.now c.requires.noted s.n.number s.t
+    c.requires.t_nonzero.0.0 c.requires.t_nonzero.0.1 _ c.edited.ensures _ _ c.if-edited.true
     c.content_source-source.ensures.table_value c.same_in.ensures
 
 pub returns : goal.returns
 returns c =
-    let from = c in
-    let s = from.args in
-    two_none (map (λ x. x.now) s.texts.now) s.lines.now s.facts.now s.marks.now from.requires.noted s.n.number s.t
-    from.requires.t_nonzero.0.0 from.requires.t_nonzero.0.1 _ c.edited.ensures c.if-edited.false
+    let s = c.args in
+    two_none (map (λ x. x.now) s.texts.now) s.lines.now s.facts.now s.marks.now c.requires.noted s.n.number s.t
+    c.requires.t_nonzero.0.0 c.requires.t_nonzero.0.1 _ c.edited.ensures c.if-edited.false

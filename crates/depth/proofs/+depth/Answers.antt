@@ -8,7 +8,11 @@ returns-then-l-eq0-clause-value t c = climb_top _ _ _ c.if-l-eq0.true
 pub returns-then-known-gt0 : goal.returns-then-known-gt0
 returns-then-known-gt0 t c =
     let is = noted_here _ _ _ _ _ c.requires.1 c.wide-known.ensures.0 c.if-known-gt0.true in
-    record { value = is; upper_bound = omega (arith, is, climb-le _ _ _ c.requires.0); noted = c.requires.1 }
+    record {
+      value = is;
+      upper_bound = omega (arith, is, climb-le _ _ _ c.requires.0);
+      noted = c.requires.1;
+    }
 
 pub returns : goal.returns
 returns t c =

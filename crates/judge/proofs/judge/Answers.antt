@@ -16,12 +16,16 @@ first_clash-clash-requires c = search rules
 
 pub returns-then-clash-ne-ACCEPTED : goal.returns-then-clash-ne-ACCEPTED
 returns-then-clash-ne-ACCEPTED c =
-    let s = c in
-    let texts : List (List ℕ) = map (λ x. x.now) s.args.texts.now in
-    let long : length texts ≡ TABLES = length-map s.args.texts.now (λ x. x.now) ∙ s.requires.by_index.1 in record { judges = judged_clash texts s.args.lines.now s.args.facts.now s.args.counts.now long
+    let texts : List (List ℕ) = map (λ x. x.now) c.args.texts.now in
+    let long : length texts ≡ TABLES = length-map c.args.texts.now (λ x. x.now) ∙ c.requires.by_index.1 in
+    record {
+      judges =
+        judged_clash texts c.args.lines.now c.args.facts.now c.args.counts.now long
           c.least_clashes-least.result c.least_clashes-least.ensures
-          s.args.ls.now s.args.fs.now c.first_clash-clash.result c.first_clash-clash.ensures
-          c.if-clash-ne-ACCEPTED.true; count_bound = first_few c.least_clashes-least.result _ c.first_clash-clash.ensures }
+          c.args.ls.now c.args.fs.now c.first_clash-clash.result c.first_clash-clash.ensures
+          c.if-clash-ne-ACCEPTED.true;
+      count_bound = first_few c.least_clashes-least.result _ c.first_clash-clash.ensures;
+    }
 
 pub open-requires : goal.open-requires
 open-requires c = search rules
@@ -34,44 +38,51 @@ refused-requires c = search rules
 
 pub returns-then-broken-ne-NONE : goal.returns-then-broken-ne-NONE
 returns-then-broken-ne-NONE c =
-    let laid = c in
-    let opened = laid in
-    let told = opened in
-    let first = told in
-    let s = first in
-    let texts : List (List ℕ) = map (λ x. x.now) s.args.texts.now in
-    let long : length texts ≡ TABLES = length-map s.args.texts.now (λ x. x.now) ∙ s.requires.by_index.1 in record { judges = judged_broken texts _ _ _ long _ first.least_clashes-least.ensures _ first.first_clash-clash.ensures told.if-clash-ne-ACCEPTED.false _ _ _ _ _
-          s.requires.ls_value.0 s.requires.ls_value.1 opened.open.ensures _ _ laid.lay_down-laid.ensures.laid_down _ c.if-broken-ne-NONE.true
-          c.refused.ensures; count_bound = refused_few _ _ _ c.refused.ensures }
+    let texts : List (List ℕ) = map (λ x. x.now) c.args.texts.now in
+    let long : length texts ≡ TABLES = length-map c.args.texts.now (λ x. x.now) ∙ c.requires.by_index.1 in
+    record {
+      judges =
+        judged_broken texts _ _ _ long _ c.least_clashes-least.ensures _ c.first_clash-clash.ensures
+          c.if-clash-ne-ACCEPTED.false _ _ _ _ _
+          c.requires.ls_value.0 c.requires.ls_value.1 c.open.ensures _ _ c.lay_down-laid.ensures.laid_down _ c.if-broken-ne-NONE.true
+          c.refused.ensures;
+      count_bound = refused_few _ _ _ c.refused.ensures;
+    }
 
 pub least_lost-lost-requires : goal.least_lost-lost-requires
 least_lost-lost-requires c =
-    let s = c in record { by_index = s.requires.by_index.0; lined = s.requires.lined; marked = s.requires.marked }
+    record {
+      by_index = c.requires.by_index.0;
+      lined = c.requires.lined;
+      marked = c.requires.marked;
+    }
 
 pub refused-requires-then-lost-ne-NONE : goal.refused-requires-then-lost-ne-NONE
 refused-requires-then-lost-ne-NONE c = search rules
 
 pub returns-then-lost-ne-NONE : goal.returns-then-lost-ne-NONE
 returns-then-lost-ne-NONE c =
-    let laid = c in
-    let opened = laid in
-    let told = opened in
-    let first = told in
-    let s = first in
-    let texts : List (List ℕ) = map (λ x. x.now) s.args.texts.now in
-    let long : length texts ≡ TABLES = length-map s.args.texts.now (λ x. x.now) ∙ s.requires.by_index.1 in record { judges = judged-lost texts _ _ _ long _ first.least_clashes-least.ensures _ first.first_clash-clash.ensures told.if-clash-ne-ACCEPTED.false _ _ _ _ _
-          s.requires.ls_value.0 s.requires.ls_value.1 opened.open.ensures _ _ laid.lay_down-laid.ensures.laid_down
+    let texts : List (List ℕ) = map (λ x. x.now) c.args.texts.now in
+    let long : length texts ≡ TABLES = length-map c.args.texts.now (λ x. x.now) ∙ c.requires.by_index.1 in
+    record {
+      judges =
+        judged-lost texts _ _ _ long _ c.least_clashes-least.ensures _ c.first_clash-clash.ensures
+          c.if-clash-ne-ACCEPTED.false _ _ _ _ _
+          c.requires.ls_value.0 c.requires.ls_value.1 c.open.ensures _ _ c.lay_down-laid.ensures.laid_down
           c.if-broken-ne-NONE.false _ c.least_lost-lost.ensures _ c.if-lost-ne-NONE.true
-          c.refused-then-lost-ne-NONE.ensures; count_bound = refused_few _ _ _ c.refused-then-lost-ne-NONE.ensures }
+          c.refused-then-lost-ne-NONE.ensures;
+      count_bound = refused_few _ _ _ c.refused-then-lost-ne-NONE.ensures;
+    }
 
 pub returns : goal.returns
 returns c =
-    let laid = c in
-    let opened = laid in
-    let told = opened in
-    let first = told in
-    let s = first in
-    let texts : List (List ℕ) = map (λ x. x.now) s.args.texts.now in
-    let long : length texts ≡ TABLES = length-map s.args.texts.now (λ x. x.now) ∙ s.requires.by_index.1 in record { judges = judged-tree texts _ _ _ long _ first.least_clashes-least.ensures _ first.first_clash-clash.ensures told.if-clash-ne-ACCEPTED.false _ _ _ _ _
-          s.requires.ls_value.0 s.requires.ls_value.1 opened.open.ensures _ _ laid.lay_down-laid.ensures.laid_down
-          c.if-broken-ne-NONE.false _ c.least_lost-lost.ensures c.if-lost-ne-NONE.false; count_bound = laid.lay_down-laid.ensures.count_bound }
+    let texts : List (List ℕ) = map (λ x. x.now) c.args.texts.now in
+    let long : length texts ≡ TABLES = length-map c.args.texts.now (λ x. x.now) ∙ c.requires.by_index.1 in
+    record {
+      judges =
+        judged-tree texts _ _ _ long _ c.least_clashes-least.ensures _ c.first_clash-clash.ensures
+          c.if-clash-ne-ACCEPTED.false _ _ _ _ _
+          c.requires.ls_value.0 c.requires.ls_value.1 c.open.ensures _ _ c.lay_down-laid.ensures.laid_down
+          c.if-broken-ne-NONE.false _ c.least_lost-lost.ensures c.if-lost-ne-NONE.false;
+      count_bound = c.lay_down-laid.ensures.count_bound;
+    }

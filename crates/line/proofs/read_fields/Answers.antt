@@ -21,8 +21,7 @@ byte_at-last-requires c = search scans
 
 pub loop-filled-init : goal.loop-filled-init
 loop-filled-init c =
-    let s = c in
-    fields-start s.args.s.now _ _ _ _ s.requires.1 c.good_sixteens-wide.ensures.result_value c.good_eights-i.ensures.result_value
+    fields-start c.args.s.now _ _ _ _ c.requires.1 c.good_sixteens-wide.ensures.result_value c.good_eights-i.ensures.result_value
     c.byte_at-last.ensures
 
 pub byte_at-x-requires : goal.byte_at-x-requires

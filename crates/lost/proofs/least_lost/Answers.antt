@@ -18,12 +18,17 @@ bounds-counts-t c = search leasts
 
 pub lost_in-in_branch-requires : goal.lost_in-in_branch-requires
 lost_in-in_branch-requires c =
-    let from = c in
-    let s = from.args in
+    let s = c.args in
     let low = c.loop-t.invariant.0 in
     let high = c.loop-t-test.true in
-    let note = noted (map (λ x. x.now) s.texts.now) s.lines.now s.facts.now s.counts.now from.requires.lined s.marks.now
-    from.requires.marked in record { t_nonzero = ((low, high), from.requires.by_index _ high); noted = note; lined_table = from.requires.lined.tables _ high; marked_table = from.requires.marked.branches _ low high }
+    let note = noted (map (λ x. x.now) s.texts.now) s.lines.now s.facts.now s.counts.now c.requires.lined s.marks.now
+    c.requires.marked in
+    record {
+      t_nonzero = ((low, high), c.requires.by_index _ high);
+      noted = note;
+      lined_table = c.requires.lined.tables _ high;
+      marked_table = c.requires.marked.branches _ low high;
+    }
 
 pub smaller-least-requires : goal.smaller-least-requires
 smaller-least-requires c = search leasts
@@ -36,13 +41,12 @@ loop-t-smaller c = search leasts
 
 pub loop-t-preserved : goal.loop-t-preserved
 loop-t-preserved c =
-    let loop = c in
-    let s = loop.args in
+    let s = c.args in
     let branch : ℕ → ℕ = λ t.
     lost_in (map (λ x. x.now) s.texts.now) s.lines.now s.facts.now s.ls.now s.fs.now t (get_or s.counts.now t 0) in (
       omega arith,
       omega (arith, c.loop-t-test.true),
-      best_branch branch _ _ _ _ loop.loop-t.invariant.0 loop.loop-t.invariant.2 c.lost_in-in_branch.ensures c.smaller-least.ensures,
+      best_branch branch _ _ _ _ c.loop-t.invariant.0 c.loop-t.invariant.2 c.lost_in-in_branch.ensures c.smaller-least.ensures,
     )
 
 pub returns : goal.returns

@@ -24,8 +24,7 @@ place-requires c = search rules
 
 pub returns : goal.returns
 returns c =
-    let from = c in
-    let s = from.args in
+    let s = c.args in
     content_gone (tell (map (λ x. x.now) s.texts.now) s.lines.now s.facts.now) (has_in s.ls.now) _ _ _ _ _
     c.has.ensures c.if-has.false
-    (c.edited-test.ensures ∙ from.requires.noted.edits s.t from.requires.t_nonzero.0 from.requires.t_nonzero.1 s.n.number) c.place.ensures
+    (c.edited-test.ensures ∙ c.requires.noted.edits s.t c.requires.t_nonzero.0 c.requires.t_nonzero.1 s.n.number) c.place.ensures

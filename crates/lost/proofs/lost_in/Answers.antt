@@ -19,8 +19,13 @@ bounds-marks-t c = search leasts
 
 pub lost_on-at-requires : goal.lost_on-at-requires
 lost_on-at-requires c =
-    let s = c in
-    let here = c.loop-i-test.true in record { t_nonzero = search leasts; noted = s.requires.noted; i_bound = s.requires.lined_table.low _ here; i_value = s.requires.marked_table.on _ here }
+    let here = c.loop-i-test.true in
+    record {
+      t_nonzero = search leasts;
+      noted = c.requires.noted;
+      i_bound = c.requires.lined_table.low _ here;
+      i_value = c.requires.marked_table.on _ here;
+    }
 
 pub smaller-least-requires : goal.smaller-least-requires
 smaller-least-requires c = search leasts
@@ -33,19 +38,17 @@ loop-i-smaller c = search leasts
 
 pub loop-i-preserved : goal.loop-i-preserved
 loop-i-preserved c =
-    let test = c in
-    let from = test in
-    let s = from.args in
+    let s = c.args in
     let texts : List (List ℕ) = map (λ x. x.now) s.texts.now in
     let f : ℕ → ℕ = lost_on texts s.lines.now s.facts.now s.ls.now s.fs.now s.t in
-    let so_far = test.loop-i.invariant.1 in
-    let here = test.loop-i-test.true in (
+    let so_far = c.loop-i.invariant.1 in
+    let here = c.loop-i-test.true in (
       omega (arith, here),
       elim c.if-marks-t-ne0.branch [
         | then-marks-t-ne0 u ↦ u.least-is ∙ best-on f _ _ _ _ so_far u.lost_on-at.ensures u.smaller-least.ensures
         | else-marks-t-ne0 u ↦ u.least-is ∙ best_skip f _ _ so_far
-            (nothing_new texts s.lines.now s.facts.now s.ls.now s.fs.now s.t _ _ (from.requires.lined_table.low _ here)
-            (from.requires.marked_table.on _ here) u.if-marks-t-ne0.false)
+            (nothing_new texts s.lines.now s.facts.now s.ls.now s.fs.now s.t _ _ (c.requires.lined_table.low _ here)
+            (c.requires.marked_table.on _ here) u.if-marks-t-ne0.false)
       ],
     )
 

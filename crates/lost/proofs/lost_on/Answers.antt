@@ -22,10 +22,9 @@ bounds-marks-t c = search rules
 
 pub returns-then-marks-t-lt2 : goal.returns-then-marks-t-lt2
 returns-then-marks-t-lt2 c =
-    let from = c in
-    let s = from.args in
+    let s = c.args in
     content_only (map (λ x. x.now) s.texts.now) s.lines.now s.facts.now s.ls.now s.fs.now s.t s.i _
-    from.requires.i_bound from.requires.i_value _ _ c.if-marks-t-lt2.true c.number_in-n.ensures
+    c.requires.i_bound c.requires.i_value _ _ c.if-marks-t-lt2.true c.number_in-n.ensures
     c.lost_content-content.ensures
 
 pub lost_position-position-requires : goal.lost_position-position-requires
@@ -36,8 +35,7 @@ smaller-requires c = search rules
 
 pub returns : goal.returns
 returns c =
-    let content = c in
-    let s = content.args in
+    let s = c.args in
     lost_is (ask s.lines.now s.facts.now) (tell (map (λ x. x.now) s.texts.now) s.lines.now s.facts.now)
-    (asked s.ls.now s.fs.now) _ _ _ _ _ _ content.number_in-n.ensures c.lost_position-position.ensures
-    content.lost_content-content.ensures c.smaller.ensures
+    (asked s.ls.now s.fs.now) _ _ _ _ _ _ c.number_in-n.ensures c.lost_position-position.ensures
+    c.lost_content-content.ensures c.smaller.ensures

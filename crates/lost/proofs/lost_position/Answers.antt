@@ -30,11 +30,10 @@ smaller-requires c = search rules
 
 pub returns : goal.returns
 returns c =
-    let made = c in
-    let s = made.args in
+    let s = c.args in
     let q = ask s.lines.now s.facts.now in
     let m = asked s.ls.now s.fs.now in
-    lesser-place (λ u. lost_after q m s.t u s.n.number) _ _ _ _ _ _ _ _ _ made.parent_in-r.ensures
-    made.lost_after-behind.ensures
-    (c.lost_after-first.ensures ∙ (λ i. lost_after q m s.t s.n.number (made.start.ensures i)))
+    lesser-place (λ u. lost_after q m s.t u s.n.number) _ _ _ _ _ _ _ _ _ c.parent_in-r.ensures
+    c.lost_after-behind.ensures
+    (c.lost_after-first.ensures ∙ (λ i. lost_after q m s.t s.n.number (c.start.ensures i)))
     c.place-a.ensures c.place-b.ensures c.smaller.ensures

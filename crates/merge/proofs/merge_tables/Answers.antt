@@ -8,7 +8,13 @@ mark_branches-requires c = search merges
 
 pub judge-judged-requires : goal.judge-judged-requires
 judge-judged-requires c =
-    let s = c in record { by_index = (ready_few _ _ _ _ s.requires.0, s.requires.1); ls_value = search merges; lined = search merges; marked = search merges; noted = search merges }
+    record {
+      by_index = (ready_few _ _ _ _ c.requires.0, c.requires.1);
+      ls_value = search merges;
+      lined = search merges;
+      marked = search merges;
+      noted = search merges;
+    }
 
 pub refused-requires : goal.refused-requires
 refused-requires c = search rules
@@ -18,9 +24,8 @@ returns-then-code-ne-ACCEPTED c = search merges
 
 pub pack-requires : goal.pack-requires
 pack-requires c =
-    let judged = c in
-    pack_ready _ _ _ _ _ _ _ judged.judge-judged.ensures.judges c.if-code-ne-ACCEPTED.false judged.judge-judged.ensures.count_bound
-    judged.requires.0
+    pack_ready _ _ _ _ _ _ _ c.judge-judged.ensures.judges c.if-code-ne-ACCEPTED.false c.judge-judged.ensures.count_bound
+    c.requires.0
 
 pub shape_of-table : goal.shape_of-table
 shape_of-table c = search rules

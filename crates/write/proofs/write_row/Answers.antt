@@ -15,10 +15,9 @@ part-content-requires c = search rowings
 
 pub write_line-requires : goal.write_line-requires
 write_line-requires c =
-    let s = c in
-    row_room (map (λ x. x.now) s.args.texts.now) s.args.lines.now s.args.facts.now s.args.r.number s.args.n.number _ _
-    c.field-place.ensures c.field-long.ensures _ c.part-content.ensures s.args.at _
-    s.requires.1
+    row_room (map (λ x. x.now) c.args.texts.now) c.args.lines.now c.args.facts.now c.args.r.number c.args.n.number _ _
+    c.field-place.ensures c.field-long.ensures _ c.part-content.ensures c.args.at _
+    c.requires.1
 
 pub shape_of-out : goal.shape_of-out
 shape_of-out c = search rules

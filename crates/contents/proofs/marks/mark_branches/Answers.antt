@@ -13,8 +13,11 @@ bounds-counts-t c = search markings
 
 pub mark_branch-requires : goal.mark_branch-requires
 mark_branch-requires c =
-    let s = c in
-    let low = c.loop-t-test.true in record { t_bound = (low, (s.requires.by_index.0 _ low, s.requires.by_index.1)); lined_table = s.requires.lined.tables _ low }
+    let low = c.loop-t-test.true in
+    record {
+      t_bound = (low, (c.requires.by_index.0 _ low, c.requires.by_index.1));
+      lined_table = c.requires.lined.tables _ low;
+    }
 
 pub overflow_add-t : goal.overflow_add-t
 overflow_add-t c = search markings
@@ -30,7 +33,10 @@ loop-t-preserved c =
 
 pub returns : goal.returns
 returns c =
-    let s = c in
-    let a = s.args in
+    let a = c.args in
     let marked = marking_end (map (λ x. x.now) a.texts.now) a.lines.now a.facts.now a.counts.now _ _ c.loop-t.invariant
-    c.loop-t-test.false in record { marked = marked; noted = noted (map (λ x. x.now) a.texts.now) a.lines.now a.facts.now a.counts.now s.requires.lined _ marked }
+    c.loop-t-test.false in
+    record {
+      marked = marked;
+      noted = noted (map (λ x. x.now) a.texts.now) a.lines.now a.facts.now a.counts.now c.requires.lined _ marked;
+    }

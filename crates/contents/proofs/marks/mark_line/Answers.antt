@@ -30,26 +30,18 @@ mark-requires c = search rules
 
 pub returns-then-i-eq0 : goal.returns-then-i-eq0
 returns-then-i-eq0 c =
-    let alike = c in
-    let line = alike in
-    let number = line in
-    let from = number in
-    let s = from.args in
-    mark_top (map (λ x. x.now) s.texts.now) s.lines.now s.facts.now s.t s.i from.requires.i_value _ _ _
-    number.number_in-n.ensures line.line_of-o.ensures.value _ c.if-i-eq0.true alike.alike_lines-alike.ensures c.mark.ensures
+    let s = c.args in
+    mark_top (map (λ x. x.now) s.texts.now) s.lines.now s.facts.now s.t s.i c.requires.i_value _ _ _
+    c.number_in-n.ensures c.line_of-o.ensures.value _ c.if-i-eq0.true c.alike_lines-alike.ensures c.mark.ensures
 
 pub mark-requires-then-o-eq0 : goal.mark-requires-then-o-eq0
 mark-requires-then-o-eq0 c = search rules
 
 pub returns-then-o-eq0 : goal.returns-then-o-eq0
 returns-then-o-eq0 c =
-    let alike = c in
-    let line = alike in
-    let number = line in
-    let from = number in
-    let s = from.args in
-    mark_new (map (λ x. x.now) s.texts.now) s.lines.now s.facts.now s.t s.i from.requires.i_value _ _ _
-    number.number_in-n.ensures line.line_of-o.ensures.value c.if-i-eq0.false c.if-o-eq0.true c.mark-then-o-eq0.ensures
+    let s = c.args in
+    mark_new (map (λ x. x.now) s.texts.now) s.lines.now s.facts.now s.t s.i c.requires.i_value _ _ _
+    c.number_in-n.ensures c.line_of-o.ensures.value c.if-i-eq0.false c.if-o-eq0.true c.mark-then-o-eq0.ensures
 
 pub same_as_old-kept-requires : goal.same_as_old-kept-requires
 same_as_old-kept-requires c = search rules
@@ -59,11 +51,7 @@ mark-requires-2 c = search rules
 
 pub returns : goal.returns
 returns c =
-    let alike = c in
-    let line = alike in
-    let number = line in
-    let from = number in
-    let s = from.args in
-    mark-old (map (λ x. x.now) s.texts.now) s.lines.now s.facts.now s.t s.i from.requires.i_value _ _ _
-    number.number_in-n.ensures line.line_of-o.ensures.value _ _ c.if-i-eq0.false
-    c.if-o-eq0.false alike.alike_lines-alike.ensures c.same_as_old-kept.ensures c.mark-2.ensures
+    let s = c.args in
+    mark-old (map (λ x. x.now) s.texts.now) s.lines.now s.facts.now s.t s.i c.requires.i_value _ _ _
+    c.number_in-n.ensures c.line_of-o.ensures.value _ _ c.if-i-eq0.false
+    c.if-o-eq0.false c.alike_lines-alike.ensures c.same_as_old-kept.ensures c.mark-2.ensures

@@ -8,7 +8,11 @@ pub loop-i-init : goal.loop-i-init
 loop-i-init c = search fills
 
 pub mark_line-requires : goal.mark_line-requires
-mark_line-requires c = record { t_bound = search fills; i_value = c.requires.lined_table.on_line_lem _ c.loop-i-test.true }
+mark_line-requires c =
+    record {
+      t_bound = search fills;
+      i_value = c.requires.lined_table.on_line_lem _ c.loop-i-test.true;
+    }
 
 pub bounds-row-i : goal.bounds-row-i
 bounds-row-i c = search fills

@@ -14,10 +14,10 @@ fresh-requires c = search seeks
 
 pub returns-then-fresh : goal.returns-then-fresh
 returns-then-fresh c =
-    let loop = c in
-    let s = loop.args in
-    let v : ℕ → ℕ = λ k. (ask s.lines.now s.facts.now k).after s.r.number s.p.number in record {
-      value = fresh_here v s.o.number _ _ _ loop.loop-t.invariant c.loop-t-test.true
+    let s = c.args in
+    let v : ℕ → ℕ = λ k. (ask s.lines.now s.facts.now k).after s.r.number s.p.number in
+    record {
+      value = fresh_here v s.o.number _ _ _ c.loop-t.invariant c.loop-t-test.true
           c.follower_in-s.ensures c.fresh.ensures c.if-fresh.true;
       upper_bound = c.loop-t-test.true;
     }
@@ -30,10 +30,9 @@ loop-t-smaller c = search seeks
 
 pub loop-t-preserved : goal.loop-t-preserved
 loop-t-preserved c =
-    let loop = c in
-    let s = loop.args in
+    let s = c.args in
     let v : ℕ → ℕ = λ k. (ask s.lines.now s.facts.now k).after s.r.number s.p.number in
-    fresh_on v s.o.number _ _ _ loop.loop-t.invariant c.loop-t-test.true
+    fresh_on v s.o.number _ _ _ c.loop-t.invariant c.loop-t-test.true
     c.follower_in-s.ensures c.fresh.ensures c.if-fresh.false
 
 pub returns : goal.returns

@@ -32,12 +32,10 @@ smaller-requires c = search rules
 
 pub returns : goal.returns
 returns c =
-    let made = c in
-    let asked = made in
-    let s = asked.args in
+    let s = c.args in
     let q = ask s.lines.now s.facts.now in
-    lesser-place (λ u. torn q s.t u s.n.number s.n.number) _ _ _ _ _ _ _ _ _ asked.parent_in-r.ensures
-    asked.torn-beside.ensures
+    lesser-place (λ u. torn q s.t u s.n.number s.n.number) _ _ _ _ _ _ _ _ _ c.parent_in-r.ensures
+    c.torn-beside.ensures
     (c.torn-within.ensures
-    ∙ (λ i. torn q s.t s.n.number (made.start.ensures i) (made.end.ensures i)))
+    ∙ (λ i. torn q s.t s.n.number (c.start.ensures i) (c.end.ensures i)))
     c.place-a.ensures c.place-b.ensures c.smaller.ensures

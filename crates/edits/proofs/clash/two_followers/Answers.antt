@@ -21,15 +21,12 @@ follower_in-u-requires c = search rules
 
 pub returns-then-fresh : goal.returns-then-fresh
 returns-then-fresh c =
-    let seen = c in
-    let asked = seen in
-    let s = asked.args in
+    let s = c.args in
     first_differs (λ k. (ask s.lines.now s.facts.now k).after s.r.number s.p.number) _ _ _ _ _ _
-    asked.follower_in-o.ensures asked.follower_in-s.ensures asked.fresh.ensures
-    seen.if-fresh.true seen.after_source-k.ensures.value seen.follower_in-u.ensures
+    c.follower_in-o.ensures c.follower_in-s.ensures c.fresh.ensures
+    c.if-fresh.true c.after_source-k.ensures.value c.follower_in-u.ensures
 
 pub returns : goal.returns
 returns c =
-    let asked = c in
-    not_new _ _ _ _ _ _ asked.follower_in-o.ensures asked.follower_in-s.ensures
-    asked.fresh.ensures c.if-fresh.false
+    not_new _ _ _ _ _ _ c.follower_in-o.ensures c.follower_in-s.ensures
+    c.fresh.ensures c.if-fresh.false

@@ -21,15 +21,12 @@ forerunner_in-u-requires c = search rules
 
 pub returns-then-fresh : goal.returns-then-fresh
 returns-then-fresh c =
-    let seen = c in
-    let asked = seen in
-    let s = asked.args in
+    let s = c.args in
     first_differs (λ k. (ask s.lines.now s.facts.now k).before s.r.number s.s.number) _ _ _ _ _ _
-    asked.forerunner_in-o.ensures asked.forerunner_in-p.ensures asked.fresh.ensures
-    seen.if-fresh.true seen.before_source-k.ensures.value seen.forerunner_in-u.ensures
+    c.forerunner_in-o.ensures c.forerunner_in-p.ensures c.fresh.ensures
+    c.if-fresh.true c.before_source-k.ensures.value c.forerunner_in-u.ensures
 
 pub returns : goal.returns
 returns c =
-    let asked = c in
-    not_new _ _ _ _ _ _ asked.forerunner_in-o.ensures asked.forerunner_in-p.ensures
-    asked.fresh.ensures c.if-fresh.false
+    not_new _ _ _ _ _ _ c.forerunner_in-o.ensures c.forerunner_in-p.ensures
+    c.fresh.ensures c.if-fresh.false

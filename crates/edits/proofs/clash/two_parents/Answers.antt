@@ -18,11 +18,10 @@ parent_in-b-requires c = search rules
 
 pub returns-then-claims : goal.returns-then-claims
 returns-then-claims c =
-    let seen = c in
-    let s = seen.args in
-    parents_differ_lem (ask s.lines.now s.facts.now) _ _ _ _ _ _ seen.claims.ensures
-    seen.if-claims.true seen.parent_source-k.ensures.value seen.parent_in-a.ensures
-    seen.parent_in-b.ensures
+    let s = c.args in
+    parents_differ_lem (ask s.lines.now s.facts.now) _ _ _ _ _ _ c.claims.ensures
+    c.if-claims.true c.parent_source-k.ensures.value c.parent_in-a.ensures
+    c.parent_in-b.ensures
 
 pub returns : goal.returns
 returns c = search ways
