@@ -1,6 +1,6 @@
 -- The three buffers are filled one after another. b are the buffers, n the counts of bytes read, t is a file; a name with a prime is what
 -- it is after a file was read. Assumes nothing.
-use mathlib.Core.Path.{◌≡◌, refl, sym, ap, ◌∙◌, subst}
+use mathlib.Core.Path.{◌≡◌, sym, ap, ◌∙◌, subst}
 use mathlib.Core.List.{List, []}
 use Prim.Native.Nat.{ℕ, ◌+◌, ◌<◌, ◌≤◌}
 use native.Mathlib.Omega.{arith}
@@ -8,7 +8,7 @@ use lib.ListN.{length, get_or, set, take, length-set}
 use lib.Seq.{get_or-set_same, get_or-set_other}
 use borrow.Author.Count.{below_none, below_more}
 use borrow.Author.Rules.{rules}
-use Rattle.io.specs.Counts.{IsPrefixLen}
+use Rattle.std.specs.Counts.{IsPrefixLen}
 use Rattle.demonstration.specs.Printed.{Shows, printed}
 use Rattle.demonstration.specs.Files.{files, text_in, printed_of, Filled, ReadTo}
 

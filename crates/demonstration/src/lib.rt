@@ -14,11 +14,9 @@ use bytes_out::{copy, write_field};
 use ledger::write_end;
 use rules::answers::Merged;
 use rules::codes::ACCEPTED;
-use std::fs;
-use std::io;
 use std::io::{ErrorKind, Read};
 use std::rt::Files;
-use std::str;
+use std::{fs, io, str};
 use text::text_of;
 
 // So many files are read: old, first and second.
