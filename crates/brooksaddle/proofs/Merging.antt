@@ -45,7 +45,7 @@ module _ (old first second : List ℕ) (lines facts : List (List ℕ)) (counts :
 
   outcome : (table_room ledger_room : ℕ)
       → merge_texts old (first ∷ second ∷ []) table_room ledger_room ≡ once_all_read 1 (old ∷ first ∷ second ∷ [])
-          (onward table_room ledger_room)
+      (onward table_room ledger_room)
   unfolding merge_texts onward
   outcome table_room ledger_room = refl
 

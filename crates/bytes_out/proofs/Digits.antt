@@ -83,7 +83,7 @@ module _ (o₀ o : List ℕ) (at n rest to : ℕ) (d : Digits o₀ o at n rest t
           before =
               sets_apart o at (last_digits k (rest / 10)) (at + k) (48 + rest % 10) (inr (omega (arith, last_digits-length k (rest / 10))))
               ∙ ap (λ (j : ℕ). set (sets o at (last_digits k (rest / 10))) (at + j) (48 + rest % 10))
-                  (sym (last_digits-length k (rest / 10)))
+              (sym (last_digits-length k (rest / 10)))
               ∙ sym (sets-append o at (last_digits k (rest / 10)) ((48 + rest % 10) ∷ []))
 
   pub digits-end : (k : ℕ) → to ≤ at → k ≡ width n → Put o₀ o at (at + k) (digits n)

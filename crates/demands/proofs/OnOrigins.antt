@@ -6,14 +6,13 @@ use mathlib.Core.List.Memᴰ
 use mathlib.Core.List.Memᴰ.{head as here}
 use mathlib.Core.List.Memᴰ.{tail as there}
 use mathlib.Core.List.{List, [], ◌∷◌, map}
-use Prim.Native.Nat.{ℕ}
 use lib.Dec.{T}
 use lib.ListN.{length}
-use Rattle.rules.specs.Lists.{◌∈◌, any}
+use Rattle.rules.specs.Lists.{◌∈◌}
 use Rattle.rules.specs.Marks.{TOP}
 use Rattle.rules.specs.Line.{Row}
 use Rattle.rules.specs.Tree.{Tree, rows}
-use Rattle.rules.specs.Facts.{ContentFact, Facts, contents_of, content_of, facts_of, same_content_fact}
+use Rattle.rules.specs.Facts.{ContentFact, Facts, contents_of, content_of, facts_of}
 use Rattle.rules.specs.Ledger.{Entry, holds, origin, entries_of}
 use Rattle.rules.specs.Demands.{Answers, Known, OriginIs, of_old, only_first, only_second, of_both}
 use Rattle.rules.proofs.Origins.{mark, origin_is}

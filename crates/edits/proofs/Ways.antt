@@ -136,7 +136,7 @@ module _ (q : ℕ → Asked) where
     going_here o t s kept z w eo h es ez y =
         let e : t ≡ first_branch (λ k. fresh o ((q k).after r p)) = fresh_here (λ k. (q k).after r p) o t s z w.left h es ez y in
         let f : t ≡ first_branch (λ k. fresh old ((q k).after r p)) = e
-            ∙ ap (λ (x : ℕ). first_branch (λ k. fresh x ((q k).after r p))) eo in
+        ∙ ap (λ (x : ℕ). first_branch (λ k. fresh x ((q k).after r p))) eo in
         es ∙ ap (λ (k : ℕ). (q k).after r p) f ∙ picked (first_branch (λ k. fresh old ((q k).after r p))) (omega (arith, f, w.left.low))
       where
         picked : (k : ℕ) → 0 < k → (q k).after r p ≡ cond (ltb 0 k) ((q k).after r p)

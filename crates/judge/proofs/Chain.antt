@@ -82,12 +82,12 @@ module _ (old : Facts) (branches : List Facts) where
           unfolding merge
           merge_25 h =
               refuse_none content_clash _ _ no_content ∙ refuse_none parent_clash _ _ no_parent
-                  ∙ refuse_none neighbour_clash _ _ no_neighbour
+              ∙ refuse_none neighbour_clash _ _ no_neighbour
               ∙ refuse_none broken_list _ _ no_broken ∙ refuse-least lost_edit (lost_edits old branches) _ h
 
           pub merge_done : lost_edits old branches ≡ [] → merge old branches ≡ merged (merged_tree old branches)
           unfolding merge
           merge_done no_lost =
               refuse_none content_clash _ _ no_content ∙ refuse_none parent_clash _ _ no_parent
-                  ∙ refuse_none neighbour_clash _ _ no_neighbour
+              ∙ refuse_none neighbour_clash _ _ no_neighbour
               ∙ refuse_none broken_list _ _ no_broken ∙ refuse_none lost_edit _ _ no_lost

@@ -84,7 +84,7 @@ module _ (q : ℕ → Asked) (old : Facts) (branches : List Facts) (w : Views q 
             | inl y ↦ let n = a.before in
                 let x = (w.view k b.1).owner a j n y (inl refl) in
                 let le = place-le (lost_after q m k ((q k).up n) n) ((q k).up n)
-                    (subst (λ (z : ℕ). T (lost_after q m k z n)) (sym x.1) t) in
+                (subst (λ (z : ℕ). T (lost_after q m k z n)) (sym x.1) t) in
                 (n, or_right (eqb n TOP) ((q k).has n) x.0, omega (arith, le, x.1, e))
             | inr y ↦ let le = place-le (lost_after q m k a.parent START) a.parent
                 (subst (λ (z : ℕ). T (lost_after q m k a.parent z)) y t) in

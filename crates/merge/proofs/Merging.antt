@@ -26,7 +26,7 @@ use Rattle.merge.specs.Merging.{Ready, MergesTables}
 
 outcome_refused : (old : List Row) (branches : List (List Row)) (table_room ledger_room code place : ℕ)
     → merge (facts_of old) (map facts_of branches) ≡ refused code place
-        → merge_tables old branches table_room ledger_room ≡ clash code place
+    → merge_tables old branches table_room ledger_room ≡ clash code place
 unfolding merge_tables
 outcome_refused old branches table_room ledger_room code place e =
     ap (λ (r : Result). judged r (λ f. packed f (entries_of old branches f) table_room ledger_room)) e

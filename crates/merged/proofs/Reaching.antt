@@ -47,28 +47,28 @@ flat_few (t ∷ tables) h =
 
 module _ (q : ℕ → Asked) (old : Facts) (branches : List Facts) (w : Views q old branches) (known : List ℕ)
     (from : (n : ℕ) → n ∈ known → (k : ℕ) × IsBranch k × T ((q k).has n)) (into : (k n : ℕ) → IsBranch k → T ((q k).has n) → n ∈ known)
-        where
-  -- a branch knows the place
-  abbrev Place : ℕ → ℕ → Type 0
-  Place r p = (k : ℕ) × IsBranch k × T (knows (q k).has r p)
+  where
+    -- a branch knows the place
+    abbrev Place : ℕ → ℕ → Type 0
+    Place r p = (k : ℕ) × IsBranch k × T (knows (q k).has r p)
 
-  known_place : (r p : ℕ) → r ∈ TOP ∷ known → (p ≡ START) ⊎ (p ∈ known) → Place r p
-  known_place r p i (inr m) =
-      let x = from p m in
-      let is_record_lem : T (is_record p) = ((w.view x.0 x.1.1).placed p x.2).0 in
-      (x.0, x.1, rw (is_true (is_record p) is_record_lem) x.2)
-  known_place r p i (inl e) = subst (Place r) (sym e) (go i)
-    where
-      go : r ∈ TOP ∷ known → (k : ℕ) × IsBranch k × T (lists (q k) r)
-      go (here d) = (1, (omega arith, omega arith), or_left (eqb r TOP) ((q 1).has r) (yes_eqb d))
-      go (there m) = let x = from r m in (x.0, x.1, or_right (eqb r TOP) ((q x.0).has r) x.2)
+    known_place : (r p : ℕ) → r ∈ TOP ∷ known → (p ≡ START) ⊎ (p ∈ known) → Place r p
+    known_place r p i (inr m) =
+        let x = from p m in
+        let is_record_lem : T (is_record p) = ((w.view x.0 x.1.1).placed p x.2).0 in
+        (x.0, x.1, rw (is_true (is_record p) is_record_lem) x.2)
+    known_place r p i (inl e) = subst (Place r) (sym e) (go i)
+      where
+        go : r ∈ TOP ∷ known → (k : ℕ) × IsBranch k × T (lists (q k) r)
+        go (here d) = (1, (omega arith, omega arith), or_left (eqb r TOP) ((q 1).has r) (yes_eqb d))
+        go (there m) = let x = from r m in (x.0, x.1, or_right (eqb r TOP) ((q x.0).has r) x.2)
 
-  pub steps : Coherent positions_disagree (kept_positions old branches) → length known < ROOM
-      → Steps (kept_after q) (kept_positions old branches) known
-  steps calm few = record {
-    calm = calm;
-    goes = goes_kept q old branches w;
-    kept_goes = λ r p s m. kept_goes q old branches w r p calm s m;
-    stays = λ r p i j t. let x = reach q old branches w r p (known_place r p i j) t in into x.0 (kept_after q r p) x.1 x.2;
-    few = few;
-  }
+    pub steps : Coherent positions_disagree (kept_positions old branches) → length known < ROOM
+        → Steps (kept_after q) (kept_positions old branches) known
+    steps calm few = record {
+      calm = calm;
+      goes = goes_kept q old branches w;
+      kept_goes = λ r p s m. kept_goes q old branches w r p calm s m;
+      stays = λ r p i j t. let x = reach q old branches w r p (known_place r p i j) t in into x.0 (kept_after q r p) x.1 x.2;
+      few = few;
+    }

@@ -155,9 +155,9 @@ module _ (texts lines facts : List (List ℕ)) (counts : List ℕ) (t : ℕ) (s 
             let c = get_or-set_other counts t k count 0 o in
             let u = get_or-append s.tables (read.t ∷ []) [] k (omega (arith, s.many)) in
             subst (λ (z : List ℕ). Held (get_or texts k []) z (get_or facts' k []) (get_or (set counts t count) k 0)
-                (get_or tables' k [])) (sym l)
+            (get_or tables' k [])) (sym l)
             (subst (λ (z : List ℕ). Held (get_or texts k []) (get_or lines k []) z (get_or (set counts t count) k 0)
-                (get_or tables' k [])) (sym f)
+            (get_or tables' k [])) (sym f)
             (subst (λ (z : ℕ). Held (get_or texts k []) (get_or lines k []) (get_or facts k []) z (get_or tables' k [])) (sym c)
             (subst (Held (get_or texts k []) (get_or lines k []) (get_or facts k []) (get_or counts k 0)) (sym u) (s.held k b))))
 

@@ -186,6 +186,6 @@ module _ (old : Facts) (branches : List Facts) (sound : (t : Facts) → t ∈ ol
   unfolding merge
   merged_answers f e =
       let v = all_none (content_clashes old branches) (parent_clashes old branches) (neighbour_clashes old branches)
-          (broken_lists old branches)
+      (broken_lists old branches)
       (lost_edits old branches) (merged_tree old branches) f e in
       subst (Answers old branches) v.5 (answers v.1 v.2 v.3 v.4)

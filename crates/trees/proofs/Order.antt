@@ -121,7 +121,7 @@ module _ (old : Facts) (branches others : List Facts) (h : Sub branches others) 
   unfolding content_clashes
   content_clashes_sub =
       map-sub record_of (disagreeing contents_disagree (content_edits old branches))
-          (disagreeing contents_disagree (content_edits old others))
+      (disagreeing contents_disagree (content_edits old others))
       (disagreeing-sub contents_disagree (content_edits old branches) (content_edits old others) content-edits-sub)
 
   abbrev given : List Facts → List ParentGiven

@@ -99,7 +99,7 @@ module _ (t : List Row) (d : Distinct t) where
       let c : content n ≡ x.content = content-found x m in
       let u : hang k t (children_of n t) ≡ walk next content k n START =
       hung k n START (children_of n t) (list_in_lem t n (there (row_number t x m)))
-          (λ y i. (keep_out (λ (z : Row). eqb z.parent n) t i).0) in
+      (λ y i. (keep_out (λ (z : Row). eqb z.parent n) t i).0) in
       let v : hang k t list ≡ walk next content k r n = hung k r n list (λ a i. h a (there i)) (λ y i. g y (there i)) in
       let q = walk_some next content k r p n e in
       cc

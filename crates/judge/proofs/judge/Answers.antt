@@ -20,7 +20,7 @@ returns-then-clash-ne-ACCEPTED c =
     let long : length texts ≡ TABLES = length-map c.args.texts.now (λ x. x.now) ∙ c.requires.by_index.1 in
     record {
       judges =
-        judged_clash texts c.args.lines.now c.args.facts.now c.args.counts.now long
+          judged_clash texts c.args.lines.now c.args.facts.now c.args.counts.now long
           c.least_clashes-least.result c.least_clashes-least.ensures
           c.args.ls.now c.args.fs.now c.first_clash-clash.result c.first_clash-clash.ensures
           c.if-clash-ne-ACCEPTED.true;
@@ -42,7 +42,7 @@ returns-then-broken-ne-NONE c =
     let long : length texts ≡ TABLES = length-map c.args.texts.now (λ x. x.now) ∙ c.requires.by_index.1 in
     record {
       judges =
-        judged_broken texts _ _ _ long _ c.least_clashes-least.ensures _ c.first_clash-clash.ensures
+          judged_broken texts _ _ _ long _ c.least_clashes-least.ensures _ c.first_clash-clash.ensures
           c.if-clash-ne-ACCEPTED.false _ _ _ _ _
           c.requires.ls_value.0 c.requires.ls_value.1 c.open.ensures _ _ c.lay_down-laid.ensures.laid_down _ c.if-broken-ne-NONE.true
           c.refused.ensures;
@@ -66,7 +66,7 @@ returns-then-lost-ne-NONE c =
     let long : length texts ≡ TABLES = length-map c.args.texts.now (λ x. x.now) ∙ c.requires.by_index.1 in
     record {
       judges =
-        judged-lost texts _ _ _ long _ c.least_clashes-least.ensures _ c.first_clash-clash.ensures
+          judged-lost texts _ _ _ long _ c.least_clashes-least.ensures _ c.first_clash-clash.ensures
           c.if-clash-ne-ACCEPTED.false _ _ _ _ _
           c.requires.ls_value.0 c.requires.ls_value.1 c.open.ensures _ _ c.lay_down-laid.ensures.laid_down
           c.if-broken-ne-NONE.false _ c.least_lost-lost.ensures _ c.if-lost-ne-NONE.true
@@ -80,7 +80,7 @@ returns c =
     let long : length texts ≡ TABLES = length-map c.args.texts.now (λ x. x.now) ∙ c.requires.by_index.1 in
     record {
       judges =
-        judged-tree texts _ _ _ long _ c.least_clashes-least.ensures _ c.first_clash-clash.ensures
+          judged-tree texts _ _ _ long _ c.least_clashes-least.ensures _ c.first_clash-clash.ensures
           c.if-clash-ne-ACCEPTED.false _ _ _ _ _
           c.requires.ls_value.0 c.requires.ls_value.1 c.open.ensures _ _ c.lay_down-laid.ensures.laid_down
           c.if-broken-ne-NONE.false _ c.least_lost-lost.ensures c.if-lost-ne-NONE.false;

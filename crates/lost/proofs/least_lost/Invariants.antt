@@ -11,7 +11,7 @@ use Rattle.lost.proofs.least_lost.Given as goal
 abbrev pub invariant-loop-t : goal.invariant-loop-t
 invariant-loop-t l =
     (0 < l.t) × (l.t ≤ TABLES) × (l.least ≡ best
-        (λ j. lost_in (map (λ x. x.now) l.texts) l.lines l.facts l.ls l.fs (suc j) (get_or l.counts (suc j) 0)) (l.t - 1))
+    (λ j. lost_in (map (λ x. x.now) l.texts) l.lines l.facts l.ls l.fs (suc j) (get_or l.counts (suc j) 0)) (l.t - 1))
 
 abbrev pub decreases-loop-t : goal.decreases-loop-t
 decreases-loop-t l = TABLES - l.t

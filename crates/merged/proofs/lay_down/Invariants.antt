@@ -9,7 +9,7 @@ use Rattle.merged.proofs.lay_down.Given as goal
 abbrev pub invariant-loop-lists : goal.invariant-loop-lists
 invariant-loop-lists l =
     Outer (kept_next l.lines l.facts) (kept_part (map (λ x. x.now) l.texts) l.lines l.facts) l.initial.ls l.initial.fs l.ls l.fs
-        l.r.number l.p.number l.count l.lists l.broken
+    l.r.number l.p.number l.count l.lists l.broken
 
 abbrev pub decreases-loop-lists : goal.decreases-loop-lists
 decreases-loop-lists l = (ROOM - l.count) + (ROOM - l.count) + l.lists
