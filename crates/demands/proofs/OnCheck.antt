@@ -1,4 +1,4 @@
--- The call of check: `check` and its export (crates/brooksaddle/src/lib.rt) ask nothing, and ensure `Checks` of the text handed in and the
+-- The call of check: `check` and its export (brooksaddle and brooksaddle_c) ask nothing, and ensure `Checks` of the text handed in and the
 -- four numbers answered; what follows holds of every such call. Accepted: the text is a table in document 01's words, and its records are
 -- counted and its tree measured. Refused: the code and the line that these words give, no count and no depth. t are a table's rows. Assumes
 -- nothing.

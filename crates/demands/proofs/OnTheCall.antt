@@ -1,4 +1,4 @@
--- The three demands on the call of merge: here a visitor begins. `merge` and its export (crates/brooksaddle/src/lib.rt) ask nothing, and
+-- The three demands on the call of merge: here a visitor begins. `merge` and its export (brooksaddle and brooksaddle_c) ask nothing, and
 -- ensure `Merges` of the texts handed in, the five numbers answered and the two lent buffers; what follows holds of every such call. `old`,
 -- `first` and `second` are the texts, `table` and `ledger` the buffers before the call; a name with a prime is a buffer after it. What
 -- each code means is said here in words of texts, facts, edits and lengths (rules/specs/UnreadableText, Conditions, Room), not by the

@@ -1,4 +1,4 @@
--- The call of tidy: `tidy` and its export (crates/brooksaddle/src/lib.rt) ask nothing, and ensure `Tidies` of the text handed in, the three
+-- The call of tidy: `tidy` and its export (brooksaddle and brooksaddle_c) ask nothing, and ensure `Tidies` of the text handed in, the three
 -- numbers answered and the lent buffer; what follows holds of every such call. The written form is as long as the text, so a buffer as long
 -- as the text is always enough; what is written reads back as the same tree. t are a table's rows; a name with a prime is the buffer after
 -- the call. That a second call changes nothing is in TidyTwice, that a refused one leaves the buffer in Demand1. Assumes nothing.
