@@ -142,10 +142,8 @@ def main():
         os.rename("crates/bytes", "crates/bytes_out")
         listed = open("crates.txt").read()
         open("crates.txt", "w").write(re.sub(r"\bbytes\b", "bytes_out", listed))
-    print(len(new), "names turned")
-    with open("/tmp/spelling.tsv", "w") as out:
-        for name in sorted(new):
-            out.write("%s\t%s\n" % (name, new[name]))
+    for name in sorted(new):
+        print("%s\t%s" % (name, new[name]))
 
 
 if __name__ == "__main__":
