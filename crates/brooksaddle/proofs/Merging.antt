@@ -17,9 +17,8 @@ use Rattle.trees.proofs.OneTable.{number_row}
 use Rattle.readback.proofs.Following.{good_few}
 use Rattle.readback.proofs.Accepting.{good}
 use Rattle.facts.specs.Memory.{TABLES, PLACE, SPAN, field, no_lines, no_facts}
-use Rattle.table.specs.declared.Refusal.{Refusal}
 use Rattle.table.specs.Read.{Unread}
-use Rattle.table.specs.All.{AllRead, ReadsAll}
+use Rattle.table.specs.All.{Refused, AllRead, ReadsAll}
 use Rattle.judge.specs.Judged.{InMemory}
 use Rattle.pack.specs.Packed.{Ends}
 use Rattle.merge.specs.Merging.{Ready, MergesTables}
@@ -33,7 +32,7 @@ none_read t h = record {
   no_fact = get_or-replicate TABLES t no_facts [] h;
 }
 
-module _ (old first second : List ℕ) (lines facts : List (List ℕ)) (counts : List ℕ) (z : Refusal)
+module _ (old first second : List ℕ) (lines facts : List (List ℕ)) (counts : List ℕ) (z : Refused)
     (w : ReadsAll (old ∷ first ∷ second ∷ []) lines facts counts z) where
   abbrev texts : List (List ℕ)
   texts = old ∷ first ∷ second ∷ []

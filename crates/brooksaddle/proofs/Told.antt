@@ -27,8 +27,10 @@ use Rattle.facts.specs.Memory.{ROOM, PLACE, LENGTH, SPAN, start_of, text_of, lin
 use Rattle.facts.specs.Asked.{has_in}
 use Rattle.facts.specs.Holds.{Holds}
 use Rattle.rules.specs.declared.answers.Part.{Part}
-use Rattle.table.specs.declared.Read.{Read}
-use Rattle.table.specs.Read.{Reads}
+use Rattle.std.specs.Prelude.{Result, Ok, Err}
+use Rattle.std.specs.Result.{is_err}
+use Rattle.table.specs.declared.Unreadable.{Unreadable}
+use Rattle.table.specs.Read.{Read, told_by, Reads}
 use Rattle.table.proofs.Answers.{Accepted, refused, accepted}
 use Rattle.write.specs.Stored.{part_in, Lies, HasContent, content_at, Stored}
 use Rattle.write.specs.Writing.{TableReady, TableWritten}
@@ -43,6 +45,11 @@ in_first text place long h g content e =
     let first : text_of place ≡ 0 = omega arith in
     let same : start_of place ≡ place = omega arith in
     (record { text = omega arith; within = rw (first, same) g }, rw (first, same) e)
+
+-- what was not refused was accepted
+pub told_ok : (r : Result ℕ Unreadable) → is_err r ≡ false → (told_by r).code ≡ 0
+told_ok (Ok count) e = refl
+told_ok (Err why) e = absurd (cc e)
 
 -- ---- a table that was read
 

@@ -2,11 +2,12 @@
 #![tactic(auto)]
 
 ghost use Rattle.std.specs.Prelude.{◌≡◌};
-ghost use Rattle.rules.specs.Calls.{no_part, content_answer};
+ghost use Rattle.rules.specs.Calls.{content_answer};
 ghost use Rattle.rules.specs.Promises.{Checks, Tidies, HandsBack, Merges};
 
 use depth::deepest;
-use facts::{FACTS, LENGTH, NUMBERS, PLACE, TABLES, field, has};
+use facts::Table;
+use facts::inputs::{Input, Inputs};
 use merge::{merge_tables, refused};
 use rules::answers::{Checked, Merged, Part, Tidied};
 use rules::codes::{ACCEPTED, TABLE_TOO_SHORT};
@@ -17,28 +18,24 @@ use write::write_table;
 // ---- check
 
 // One table: code, line, count of records, greatest depth.
+#[tactic(auto, using(crate::proofs::Told::tellings))]
 pub fn check(text: &[u8]) -> Checked
     ensures { Checks text.now result }
 {
-    let mut lines = [0u16; NUMBERS];
-    let mut facts = [0u32; FACTS];
-    let read = read_table(text, &mut lines, &mut facts);
-    let code = read.code;
-    if code != ACCEPTED {
-        return Checked {
-            code,
-            line: read.line,
+    let mut table = Table::blank();
+    match read_table(text, &mut table) {
+        Ok(count) => Checked {
+            code: ACCEPTED,
+            line: 0,
+            count,
+            depth: deepest(&table, count),
+        },
+        Err(why) => Checked {
+            code: u32::from(why.fault),
+            line: why.line,
             count: 0,
             depth: 0,
-        };
-    }
-    let count = read.count;
-    let depth = deepest(&lines, &facts, count);
-    Checked {
-        code,
-        line: 0,
-        count,
-        depth,
+        },
     }
 }
 
@@ -46,20 +43,21 @@ pub fn check(text: &[u8]) -> Checked
 
 // One table in written form, in the lent buffer: code, line, length. The same lines in another order are as long as the text, so the
 // length is known before a byte is written.
+#[tactic(auto, using(crate::proofs::Told::tellings))]
 pub fn tidy(text: &[u8], buffer: &mut [u8]) -> Tidied
     ensures { Tidies text.now buffer.old result buffer.new }
 {
-    let mut lines = [0u16; NUMBERS];
-    let mut facts = [0u32; FACTS];
-    let read = read_table(text, &mut lines, &mut facts);
-    let code = read.code;
-    if code != ACCEPTED {
-        return Tidied {
-            code,
-            line: read.line,
-            length: 0,
-        };
-    }
+    let mut table = Table::blank();
+    let count = match read_table(text, &mut table) {
+        Ok(count) => count,
+        Err(why) => {
+            return Tidied {
+                code: u32::from(why.fault),
+                line: why.line,
+                length: 0,
+            };
+        }
+    };
     let length = text.len();
     if buffer.len() < length {
         return Tidied {
@@ -69,9 +67,9 @@ pub fn tidy(text: &[u8], buffer: &mut [u8]) -> Tidied
         };
     }
     let texts = [text];
-    write_table(&texts[..], &lines, &facts, buffer, read.count);
+    write_table(&texts[..], &table, buffer, count);
     Tidied {
-        code,
+        code: ACCEPTED,
         line: 0,
         length,
     }
@@ -90,46 +88,43 @@ pub fn merge<'a>(
     ensures { Merges old.now first.now second.now table.old ledger.old
         result table.new ledger.new }
 {
-    let texts = [old, first, second];
-    let mut lines = [[0u16; NUMBERS]; TABLES];
-    let mut facts = [[0u32; FACTS]; TABLES];
-    let mut counts = [0usize; TABLES];
-    let read = read_all(&texts[..], &mut lines, &mut facts, &mut counts);
-    let code = read.code;
-    if code != ACCEPTED {
-        return refused(code, read.table, read.line);
+    let tables = [
+        Input::unread(old),
+        Input::unread(first),
+        Input::unread(second),
+    ];
+    let mut inputs = Inputs { tables };
+    match read_all(&mut inputs) {
+        Ok(()) => merge_tables(&inputs, table, ledger),
+        Err(z) => refused(u32::from(z.why.fault), z.table, z.why.line),
     }
-    merge_tables(&texts[..], &lines, &facts, &counts, table, ledger)
 }
 
 // ---- content
 
-fn no_part() -> Part
-    ensures { result ≡ no_part }
-{
-    Part {
-        start: 0,
-        length: 0,
-    }
-}
+const NOWHERE: Part = Part {
+    start: 0,
+    length: 0,
+};
 
 // Where the content of a number lies in the text: the empty part at its start for a refused table or an absent number.
+#[tactic(auto, using(crate::proofs::Told::tellings))]
 pub fn content_part(text: &[u8], number: u32) -> Part
     ensures { result ≡ content_answer text.now number }
 {
-    let mut lines = [0u16; NUMBERS];
-    let mut facts = [0u32; FACTS];
-    let read = read_table(text, &mut lines, &mut facts);
-    if read.code != ACCEPTED {
-        return no_part();
+    let mut table = Table::blank();
+    if read_table(text, &mut table).is_err() {
+        return NOWHERE;
     }
-    let n = Record::new(number);
-    if has(&lines, n) {
-        let start = field(&lines, &facts, n, PLACE) as usize;
-        let length = field(&lines, &facts, n, LENGTH) as usize;
-        return Part { start, length };
+    let n = Record::from(number);
+    if !table.has(n) {
+        return NOWHERE;
     }
-    no_part()
+    let facts = table.facts_of(n);
+    Part {
+        start: facts.place as usize,
+        length: facts.length as usize,
+    }
 }
 
 // The very part of the text that holds the content of a number.

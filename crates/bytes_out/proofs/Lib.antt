@@ -1,5 +1,3 @@
--- What the writing calls rest on: bytes put one after another, digits put last one first, a part copied one or eight bytes at a time.
+-- What the writing calls rest on: bytes put one after another, a part copied, digits put last one first.
 pub mod Puts
 pub mod Digits
-pub mod Eights
-pub mod Copies

@@ -7,8 +7,9 @@ use Prim.Native.Nat.{ℕ, suc, ◌+◌, ◌<◌, ◌≤◌}
 use native.Mathlib.Omega.{arith}
 use native.Mathlib.Nat.{add-zero}
 use lib.ListN.{length, set, drop, length-append, length-set}
-use lib.Seq.{sets, sets-eq, set_comm, append_snoc}
+use lib.Seq.{sets, sets-eq, length-sets, set_comm, drop-drop}
 use borrow.Author.Rules.{rules}
+use borrow.Rule.Slice.PartMut.{put_mid}
 use Rattle.rules.specs.Text.{TAB, LF}
 use Rattle.rules.specs.Line.{Row}
 use Rattle.rules.specs.Written.{digits, line, over}
@@ -42,6 +43,14 @@ put_none o a = record { wrote = refl; place = omega arith; long = refl }
 pub put_byte : (o : List ℕ) (a x : ℕ) → Put o (set o a x) a (a + 1) (x ∷ [])
 put_byte o a x = record { wrote = refl; place = refl; long = length-set o a x }
 
+-- a part of the buffer gets other bytes
+pub put_part : (o t : List ℕ) (at k : ℕ) (s : List ℕ) → t ≡ s → k ≡ length s → at + length s ≤ length o
+    → Put o (put_mid at k o t) at (at + length s) s
+put_part o t at k s d e h = record { wrote = same; place = refl; long = ap length same ∙ length-sets o at s }
+  where
+    same : put_mid at k o t ≡ sets o at s
+    same = rw (d, e) (simp drop-drop (sym (simp append_assoc at (sets-eq s o at h))))
+
 pub put_then : {o₀ o₁ o₂ : List ℕ} {a b c : ℕ} {s t : List ℕ} → Put o₀ o₁ a b s → Put o₁ o₂ b c t → Put o₀ o₂ a c (s ++ t)
 put_then {o₀} {o₁} {o₂} {a} {b} {c} {s} {t} p q = record {
   wrote = q.wrote ∙ rw (p.wrote, p.place) (sym (sets-append o₀ a s t));
@@ -60,11 +69,7 @@ pub field_put : (n : ℕ) {o o₁ : List ℕ} {at a : ℕ} → Put o o₁ at a (
 field_put n {o} {o₁} {at} {a} p = put_then p (put_byte o₁ a TAB)
 
 line-joined : (x : Row) → number_field x.number ++ (number_field x.parent ++ (x.content ++ (LF ∷ []))) ≡ line x
-line-joined x =
-    append_snoc (digits x.number) TAB (number_field x.parent ++ (x.content ++ (LF ∷ [])))
-    ∙ ap (λ (s : List ℕ). digits x.number ++ (TAB ∷ s)) (append_snoc (digits x.parent) TAB (x.content ++ (LF ∷ [])))
-    ∙ sym (append_assoc (digits x.number) (TAB ∷ (digits x.parent ++ (TAB ∷ x.content))) (LF ∷ [])
-    ∙ ap (λ (s : List ℕ). digits x.number ++ (TAB ∷ s)) (append_assoc (digits x.parent) (TAB ∷ x.content) (LF ∷ [])))
+line-joined x = simp append_assoc
 
 pub line-put : (n r : ℕ) (s : List ℕ) {o o₁ o₂ o₃ : List ℕ} {at a b c : ℕ} → Put o o₁ at a (number_field n)
     → Put o₁ o₂ a b (number_field r) → Put o₂ o₃ b c s

@@ -1,13 +1,12 @@
 // What the programs share that run document 01's cases: standard input has the parts of the cases one after another, each ended by byte
-// 255; answers are printed as numbers; and a lent buffer is held to the bytes that it should have.
+// 255; a lent buffer is held to the bytes that it should have, and what was written to it is shown.
 #![tactic(auto)]
 
-ghost use Rattle.std.specs.Prelude.{◌≤◌, length};
-ghost use Rattle.std.specs.Counts.{IsPrefixLen};
-ghost use Rattle.std.specs.Io.{ReadsAtMost};
+ghost use Rattle.std.specs.Prelude.{◌≡◌, ◌==◌, not, position, count_by, zip};
+ghost use Rattle.std.specs.Iterator.{YieldsFirstRef, item_count};
+ghost use Rattle.cases.specs.Parts.{end_of_part, parts_of};
 
 use std::io;
-use std::io::Read;
 
 const END_OF_PART: u8 = 255;
 
@@ -20,41 +19,37 @@ pub const FILLER: u8 = b'.';
 // So many bytes past the length are shown.
 const SHOWN_PAST: usize = 2;
 
-// Where the part ends that starts at a place.
-pub fn part_end(cases: &[u8], at: usize) -> usize
-    requires { at ≤ length cases.now }
-    ensures { (at ≤ result) × (result ≤ length cases.now) }
+// Where the first part ends, if it has an end.
+fn part_end(cases: &[u8]) -> Option<usize>
+    ensures { result ≡ position (λ x. x == end_of_part) cases.now }
 {
-    let mut end = at;
-    while end < cases.len() {
-        if cases[end] == END_OF_PART {
-            return end;
-        }
-        end += 1;
-    }
-    end
+    cases.iter().position(|byte| *byte == END_OF_PART)
 }
 
-// Reads standard input until the buffer is full or the input ends: so many bytes lie at the buffer's start.
-pub fn read_full<R: Input>(rt: &R, buffer: &mut [u8]) -> io::Result<usize>
-    ensures { ReadsAtMost result buffer.new }
-{
-    let mut reader = rt.reader();
-    let mut done = 0;
-    while done < buffer.len() {
-        let n = reader.read(&mut buffer[done..])?;
-        if n == 0 {
-            break;
-        }
-        done += n;
-    }
-    Ok(done)
-}
+// The parts of what is still to be read, in their order. The last may lack its end.
+#[derive(Drop)]
+pub struct Parts<'a>(pub &'a [u8]);
 
-// A number, and what ends it.
-pub fn print<R: Print>(rt: &R, n: u64, end: &[u8]) -> io::Result<()> {
-    rt.print(n)?;
-    rt.write_all(end)
+impl<'a> Iterator for Parts<'a> {
+    type Item = &'a [u8];
+
+    ghost next_gives = { YieldsFirstRef (λ s. parts_of s.0.now) };
+
+    ghost remaining = { item_count (λ s. parts_of s.0.now) };
+
+    #[tactic(auto, using(crate::proofs::FirstPart::first_parts))]
+    fn next(&mut self) -> Option<&'a [u8]> {
+        let rest = self.0;
+        if rest.is_empty() {
+            return None;
+        }
+        let Some(end) = part_end(rest) else {
+            self.0 = &[];
+            return Some(rest);
+        };
+        self.0 = &rest[end + 1..];
+        Some(&rest[..end])
+    }
 }
 
 pub fn print_line<R: Print>(rt: &R, bytes: &[u8]) -> io::Result<()> {
@@ -62,37 +57,19 @@ pub fn print_line<R: Print>(rt: &R, bytes: &[u8]) -> io::Result<()> {
     rt.write_all(b"\n")
 }
 
-// So many bytes of a buffer, or all if it has fewer: no length that is told is trusted.
-pub fn fitting(n: usize, buffer: &[u8]) -> usize
-    ensures { IsPrefixLen result buffer.now }
-{
-    if n < buffer.len() {
-        return n;
-    }
-    buffer.len()
-}
-
-// The bytes that were written to a buffer, and two more.
+// The bytes that were written to a buffer, and two more: no length that is told is trusted.
 pub fn print_written<R: Print>(rt: &R, buffer: &[u8], length: usize) -> io::Result<()> {
-    let written = fitting(length, buffer);
-    let shown = fitting(written + SHOWN_PAST, buffer);
+    let shown = length.saturating_add(SHOWN_PAST).min(buffer.len());
     print_line(rt, &buffer[..shown])
 }
 
-// 0 for equal bytes, otherwise 1.
-fn unlike(byte: u8, other: u8) -> u64
-    ensures { result ≤ 1 }
-{
-    if byte == other { 0 } else { 1 }
-}
-
 // How many bytes of a buffer are not as expected.
-pub fn differing(buffer: &[u8; ROOM], expected: &[u8; ROOM]) -> u64 {
-    let mut count = 0;
-    let mut at = 0;
-    while at < ROOM {
-        count += unlike(buffer[at], expected[at]);
-        at += 1;
-    }
-    count
+pub fn differing(buffer: &[u8; ROOM], expected: &[u8; ROOM]) -> usize
+    ensures { result ≡ count_by (λ pair. not (pair.0 == pair.1)) (zip buffer.now expected.now) }
+{
+    buffer
+        .iter()
+        .zip(expected)
+        .filter(|(byte, other)| byte != other)
+        .count()
 }

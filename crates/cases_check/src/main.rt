@@ -4,34 +4,32 @@
 #![tactic(auto)]
 
 use brooksaddle::{check, content};
-use cases::{part_end, print, print_line, read_full};
+use bytes_in::read_full;
+use cases::{Parts, print_line};
+use rules::answers::Checked;
 use std::io;
 
 const ROOM: usize = 131072;
 
 fn tell<R: Print>(rt: &R, text: &[u8]) -> io::Result<()> {
-    let answer = check(text);
-    print(rt, answer.code as u64, b"\t")?;
-    print(rt, answer.line as u64, b"\t")?;
-    print(rt, answer.count as u64, b"\t")?;
-    print(rt, answer.depth as u64, b"\n")?;
-    print_line(rt, content(text, 1))?;
-    print_line(rt, content(text, 65535))?;
-    print_line(rt, content(text, 65536))
-}
-
-fn tell_all<R: Print>(rt: &R, cases: &[u8]) -> io::Result<()> {
-    let mut at = 0;
-    while at < cases.len() {
-        let end = part_end(cases, at);
-        tell(rt, &cases[at..end])?;
-        at = end + 1;
+    let Checked {
+        code,
+        line,
+        count,
+        depth,
+    } = check(text);
+    println!(rt; "{code}\t{line}\t{count}\t{depth}")?;
+    for number in [1, 65535, 65536] {
+        print_line(rt, content(text, number))?;
     }
     Ok(())
 }
 
 fn main(rt: HostRuntime) -> io::Result<()> {
     let mut cases = [0u8; ROOM];
-    let n = read_full(&rt, &mut cases)?;
-    tell_all(&rt, &cases[..n])
+    let n = read_full(&mut rt.reader(), &mut cases)?;
+    for text in Parts(&cases[..n]) {
+        tell(&rt, text)?;
+    }
+    Ok(())
 }

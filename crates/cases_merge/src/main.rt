@@ -6,10 +6,13 @@
 // before the call. Below the line of the first call, if it is accepted, stand the bytes that it wrote to each buffer, and two more of each.
 #![tactic(auto)]
 
-ghost use Rattle.std.specs.Prelude.{◌≤◌, IfOk, length};
+ghost use Rattle.std.specs.Prelude.{length};
+ghost use Rattle.std.specs.Iterator.{at_most};
+ghost use Rattle.cases.specs.Parts.{parts_of};
 
 use brooksaddle::merge;
-use cases::{FILLER, ROOM, differing, fitting, part_end, print, print_written, read_full};
+use bytes_in::read_full;
+use cases::{FILLER, Parts, ROOM, differing, print_written};
 use rules::answers::Merged;
 use rules::codes::ACCEPTED;
 use std::io;
@@ -17,160 +20,133 @@ use std::io;
 // Holds all cases.
 const CASES: usize = 393216;
 
+#[derive(Clone, Copy)]
+struct Case<'a> {
+    line: &'a [u8],
+    old: &'a [u8],
+    first: &'a [u8],
+    second: &'a [u8],
+}
+
+// The cases of what is still to be read. Where it ends within a case, the tables that it lacks are empty.
+#[derive(Drop)]
+struct Cases<'a>(Parts<'a>);
+
+impl<'a> Iterator for Cases<'a> {
+    type Item = Case<'a>;
+
+    ghost remaining = { λ s. at_most (length (parts_of s.0.0.now)) };
+
+    fn next(&mut self) -> Option<Case<'a>> {
+        let line = self.0.next()?;
+        let old = self.0.next().unwrap_or(b"");
+        let first = self.0.next().unwrap_or(b"");
+        let second = self.0.next().unwrap_or(b"");
+        Some(Case {
+            line,
+            old,
+            first,
+            second,
+        })
+    }
+}
+
+// Two buffers, each longer than any table or ledger.
+#[derive(Drop)]
+struct Buffers {
+    table: [u8; ROOM],
+    ledger: [u8; ROOM],
+}
+
+impl Buffers {
+    fn filled() -> Buffers {
+        Buffers {
+            table: [FILLER; ROOM],
+            ledger: [FILLER; ROOM],
+        }
+    }
+}
+
+// A call that is lent so many bytes of each buffer, or all.
+fn merged(case: Case<'_>, table_room: usize, ledger_room: usize) -> (Merged, Buffers) {
+    let mut table = [FILLER; ROOM];
+    let mut ledger = [FILLER; ROOM];
+    let answer = merge(
+        case.old,
+        case.first,
+        case.second,
+        &mut table[..table_room.min(ROOM)],
+        &mut ledger[..ledger_room.min(ROOM)],
+    );
+    (answer, Buffers { table, ledger })
+}
+
 // The line of a call: its five numbers, and for each buffer how many of its bytes are not as expected.
 fn print_answer<R: Print>(
     rt: &R,
     answer: Merged,
-    table: &[u8; ROOM],
-    ledger: &[u8; ROOM],
-    expected_table: &[u8; ROOM],
-    expected_ledger: &[u8; ROOM],
+    buffers: &Buffers,
+    expected: &Buffers,
 ) -> io::Result<()> {
-    print(rt, answer.code as u64, b"\t")?;
-    print(rt, answer.table as u64, b"\t")?;
-    print(rt, answer.place as u64, b"\t")?;
-    print(rt, answer.table_length as u64, b"\t")?;
-    print(rt, answer.ledger_length as u64, b"\t")?;
-    print(rt, differing(table, expected_table), b"\t")?;
-    print(rt, differing(ledger, expected_ledger), b"\n")
-}
-
-// A call that is lent so many bytes of each buffer.
-fn tell_in<'a, R: Print>(
-    rt: &R,
-    old: &'a [u8],
-    first: &'a [u8],
-    second: &'a [u8],
-    table_room: usize,
-    ledger_room: usize,
-    expected_table: &[u8; ROOM],
-    expected_ledger: &[u8; ROOM],
-) -> io::Result<()> {
-    let mut table = [FILLER; ROOM];
-    let mut ledger = [FILLER; ROOM];
-    let table_end = fitting(table_room, &table);
-    let ledger_end = fitting(ledger_room, &ledger);
-    let answer = merge(
-        old,
-        first,
-        second,
-        &mut table[..table_end],
-        &mut ledger[..ledger_end],
-    );
-    print_answer(rt, answer, &table, &ledger, expected_table, expected_ledger)
-}
-
-// A call that is lent too little, and is to leave both buffers as they were.
-fn tell_lacking<'a, R: Print>(
-    rt: &R,
-    old: &'a [u8],
-    first: &'a [u8],
-    second: &'a [u8],
-    table_room: usize,
-    ledger_room: usize,
-) -> io::Result<()> {
-    let filled = [FILLER; ROOM];
-    tell_in(
-        rt,
-        old,
-        first,
-        second,
-        table_room,
-        ledger_room,
-        &filled,
-        &filled,
+    let Merged {
+        code,
+        table,
+        place,
+        table_length,
+        ledger_length,
+    } = answer;
+    let off_table = differing(&buffers.table, &expected.table);
+    let off_ledger = differing(&buffers.ledger, &expected.ledger);
+    println!(rt;
+        "{code}\t{table}\t{place}\t{table_length}\t{ledger_length}\t{off_table}\t{off_ledger}"
     )
 }
 
-// The calls that lack a byte: none for a refused merge, whose lengths are 0, and none for an empty table. A ledger is never empty.
-fn tell_short<'a, R: Print>(
+// A call that is lent so many bytes of each of two new buffers.
+fn tell_in<R: Print>(
     rt: &R,
-    old: &'a [u8],
-    first: &'a [u8],
-    second: &'a [u8],
-    table_length: usize,
-    ledger_length: usize,
+    case: Case<'_>,
+    table_room: usize,
+    ledger_room: usize,
+    expected: &Buffers,
 ) -> io::Result<()> {
-    if 0 < ledger_length {
-        let ledger_short = ledger_length - 1;
-        if 0 < table_length {
-            let table_short = table_length - 1;
-            tell_lacking(rt, old, first, second, table_short, ledger_length)?;
-            tell_lacking(rt, old, first, second, table_short, ledger_short)?;
-        }
-        tell_lacking(rt, old, first, second, table_length, ledger_short)?;
-    }
-    Ok(())
+    let (answer, buffers) = merged(case, table_room, ledger_room);
+    print_answer(rt, answer, &buffers, expected)
 }
 
-fn tell<'a, R: Print>(rt: &R, old: &'a [u8], first: &'a [u8], second: &'a [u8]) -> io::Result<()> {
-    let filled = [FILLER; ROOM];
-    let mut table = [FILLER; ROOM];
-    let mut ledger = [FILLER; ROOM];
-    let answer = merge(old, first, second, &mut table, &mut ledger);
-    let code = answer.code;
-    let table_length = answer.table_length;
-    let ledger_length = answer.ledger_length;
-    print_answer(rt, answer, &table, &ledger, &filled, &filled)?;
-    if code == ACCEPTED {
-        print_written(rt, &table, table_length)?;
-        print_written(rt, &ledger, ledger_length)?;
+// The calls that lack a byte, and are to leave both buffers as they were: none for a refused merge, whose lengths are 0, and none for an
+// empty table. A ledger is never empty.
+fn tell_short<R: Print>(rt: &R, case: Case<'_>, table: usize, ledger: usize) -> io::Result<()> {
+    let filled = Buffers::filled();
+    let Some(ledger_short) = ledger.checked_sub(1) else {
+        return Ok(());
+    };
+    if let Some(table_short) = table.checked_sub(1) {
+        tell_in(rt, case, table_short, ledger, &filled)?;
+        tell_in(rt, case, table_short, ledger_short, &filled)?;
     }
-    tell_in(
-        rt,
-        old,
-        first,
-        second,
-        table_length,
-        ledger_length,
-        &table,
-        &ledger,
-    )?;
-    tell_short(rt, old, first, second, table_length, ledger_length)
+    tell_in(rt, case, table, ledger_short, &filled)
 }
 
-// Where the part behind an end starts.
-fn start_behind(cases: &[u8], end: usize) -> usize
-    requires { end ≤ length cases.now }
-    ensures { (end ≤ result) × (result ≤ length cases.now) }
-{
-    if end < cases.len() {
-        return end + 1;
+fn tell<R: Print>(rt: &R, case: Case<'_>) -> io::Result<()> {
+    rt.write_all(case.line)?;
+    let (answer, written) = merged(case, ROOM, ROOM);
+    print_answer(rt, answer, &written, &Buffers::filled())?;
+    let table = answer.table_length;
+    let ledger = answer.ledger_length;
+    if answer.code == ACCEPTED {
+        print_written(rt, &written.table, table)?;
+        print_written(rt, &written.ledger, ledger)?;
     }
-    end
-}
-
-// The case whose tables start at a place: where it ends.
-fn tell_tables<R: Print>(rt: &R, cases: &[u8], at: usize) -> io::Result<usize>
-    requires { at ≤ length cases.now }
-    ensures { IfOk result (λ end. (at ≤ end) × (end ≤ length cases.now)) }
-{
-    let old = part_end(cases, at);
-    let first_start = start_behind(cases, old);
-    let first = part_end(cases, first_start);
-    let second_start = start_behind(cases, first);
-    let second = part_end(cases, second_start);
-    tell(
-        rt,
-        &cases[at..old],
-        &cases[first_start..first],
-        &cases[second_start..second],
-    )?;
-    Ok(second)
-}
-
-fn tell_all<R: Print>(rt: &R, cases: &[u8]) -> io::Result<()> {
-    let mut at = 0;
-    while at < cases.len() {
-        let end = part_end(cases, at);
-        rt.write_all(&cases[at..end])?;
-        at = tell_tables(rt, cases, start_behind(cases, end))? + 1;
-    }
-    Ok(())
+    tell_in(rt, case, table, ledger, &written)?;
+    tell_short(rt, case, table, ledger)
 }
 
 fn main(rt: HostRuntime) -> io::Result<()> {
     let mut cases = [0u8; CASES];
-    let n = read_full(&rt, &mut cases)?;
-    tell_all(&rt, &cases[..n])
+    let n = read_full(&mut rt.reader(), &mut cases)?;
+    for case in Cases(Parts(&cases[..n])) {
+        tell(&rt, case)?;
+    }
+    Ok(())
 }

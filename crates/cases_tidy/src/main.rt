@@ -6,54 +6,50 @@
 #![tactic(auto)]
 
 use brooksaddle::tidy;
-use cases::{FILLER, ROOM, differing, fitting, part_end, print, print_written, read_full};
+use bytes_in::read_full;
+use cases::{FILLER, Parts, ROOM, differing, print_written};
 use rules::answers::Tidied;
 use std::io;
 
 // Holds all cases.
 const CASES: usize = 262144;
 
-fn print_answer<R: Print>(rt: &R, answer: Tidied, differing: u64) -> io::Result<()> {
-    print(rt, answer.code as u64, b"\t")?;
-    print(rt, answer.line as u64, b"\t")?;
-    print(rt, answer.length as u64, b"\t")?;
-    print(rt, differing, b"\n")
+fn print_answer<R: Print>(
+    rt: &R,
+    answer: Tidied,
+    buffer: &[u8; ROOM],
+    expected: &[u8; ROOM],
+) -> io::Result<()> {
+    let Tidied { code, line, length } = answer;
+    let off = differing(buffer, expected);
+    println!(rt; "{code}\t{line}\t{length}\t{off}")
 }
 
-// A call that is lent so many bytes of a buffer.
+// A call that is lent so many bytes of a buffer, or all.
 fn tell_in<R: Print>(rt: &R, text: &[u8], room: usize, expected: &[u8; ROOM]) -> io::Result<()> {
     let mut buffer = [FILLER; ROOM];
-    let end = fitting(room, &buffer);
-    let answer = tidy(text, &mut buffer[..end]);
-    print_answer(rt, answer, differing(&buffer, expected))
+    let answer = tidy(text, &mut buffer[..room.min(ROOM)]);
+    print_answer(rt, answer, &buffer, expected)
 }
 
 fn tell<R: Print>(rt: &R, text: &[u8]) -> io::Result<()> {
     let filled = [FILLER; ROOM];
     let mut buffer = [FILLER; ROOM];
     let answer = tidy(text, &mut buffer);
-    let length = answer.length;
-    print_answer(rt, answer, differing(&buffer, &filled))?;
-    print_written(rt, &buffer, length)?;
-    tell_in(rt, text, length, &buffer)?;
-    if 0 < length {
-        tell_in(rt, text, length - 1, &filled)?;
-    }
-    Ok(())
-}
-
-fn tell_all<R: Print>(rt: &R, cases: &[u8]) -> io::Result<()> {
-    let mut at = 0;
-    while at < cases.len() {
-        let end = part_end(cases, at);
-        tell(rt, &cases[at..end])?;
-        at = end + 1;
+    print_answer(rt, answer, &buffer, &filled)?;
+    print_written(rt, &buffer, answer.length)?;
+    tell_in(rt, text, answer.length, &buffer)?;
+    if let Some(short) = answer.length.checked_sub(1) {
+        tell_in(rt, text, short, &filled)?;
     }
     Ok(())
 }
 
 fn main(rt: HostRuntime) -> io::Result<()> {
     let mut cases = [0u8; CASES];
-    let n = read_full(&rt, &mut cases)?;
-    tell_all(&rt, &cases[..n])
+    let n = read_full(&mut rt.reader(), &mut cases)?;
+    for text in Parts(&cases[..n]) {
+        tell(&rt, text)?;
+    }
+    Ok(())
 }

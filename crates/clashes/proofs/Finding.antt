@@ -1,9 +1,9 @@
 -- The least places found in memory are those of the rules' clashes. texts, lines and facts are those of all tables, old and branches
--- their rows, `counts` how many they have; f has the places of a line or of a branch, n is a record, k a branch. Assumes nothing.
-use mathlib.Core.Path.{◌≡◌, refl, sym, ◌∙◌, subst}
+-- their rows, `counts` how many they have; n is a record, k a branch. Assumes nothing.
+use mathlib.Core.Path.{◌≡◌, refl, sym, subst}
 use mathlib.Core.Bool.{Bool}
 use mathlib.Core.List.{List, [], ◌∷◌, map}
-use Prim.Native.Nat.{ℕ, zero, suc, ◌<◌, ◌≤◌, min}
+use Prim.Native.Nat.{ℕ, suc, ◌<◌}
 use lib.Dec.{T, eqb}
 use mir.Facts.{and_yes}
 use lib.ListN.{length, get_or}
@@ -13,41 +13,20 @@ use Rattle.rules.specs.Line.{Row}
 use Rattle.rules.specs.Facts.{Facts, facts_of}
 use Rattle.rules.specs.Merge.{content_clashes, parent_clashes, neighbour_clashes}
 use Rattle.trees.proofs.Lists.{or_right}
-use Rattle.trees.proofs.Marks.{record_high}
-use Rattle.facts.specs.Memory.{TABLES, BRANCHES}
+use Rattle.facts.specs.Memory.{TABLES}
 use Rattle.facts.specs.Asked.{Asked}
-use Rattle.edits.specs.Least.{NONE, least_or, best, best_of}
+use Rattle.edits.specs.Least.{least_or_none, best_of}
 use Rattle.edits.specs.Memory.{ask, number_on}
-use Rattle.edits.specs.Positions.{parent_place, neighbour_place}
 use Rattle.edits.proofs.Branches.{IsBranch}
 use Rattle.edits.proofs.Clashing.{Views}
-use Rattle.edits.proofs.Best.{place_in, place-le, best_of_is}
-use Rattle.edits.proofs.Leasts.{Met, least-parents, least_neighbours, parents_low, neighbours_low}
+use Rattle.edits.proofs.Best.{AtMost, place_in, place-le, best_of_is}
+use Rattle.edits.proofs.Leasts.{Met, least-parents, least_neighbours}
 use Rattle.contents.specs.Contents.{Told, fresh_content, two_contents, content_place}
 use Rattle.contents.specs.Memory.{tell}
 use Rattle.contents.proofs.Clashing.{ContentViews, clash_in, clash_out}
 use Rattle.contents.specs.Tables.{SideBySide}
 use Rattle.contents.proofs.Tables.{tell_views, ask_views, ask_met}
-use Rattle.clashes.specs.declared.Clashes.{Clashes}
-use Rattle.clashes.specs.Clashes.{least_to, clashes_at, all_clashes}
-
--- ---- one kind of the three
-
-module _ (kind : Clashes → ℕ) (none : kind (record { content = NONE; parent = NONE; neighbour = NONE }) ≡ NONE)
-    (joins : (a b : Clashes) → kind (record {
-      content = min a.content b.content;
-      parent = min a.parent b.parent;
-      neighbour = min a.neighbour b.neighbour;
-    }) ≡ min (kind a) (kind b)) where
-  kind_best : (f : ℕ → Clashes) (g : ℕ → ℕ) → ((i : ℕ) → kind (f i) ≡ g i) → (m : ℕ) → kind (least_to f m) ≡ best g m
-  kind_best f g e zero = none
-  kind_best f g e (suc m) = joins (least_to f m) (f m) ∙ (λ i. min (kind_best f g e m i) (e m i))
-
-  kind_of : (f : ℕ → ℕ → Clashes) (g : ℕ → ℕ → ℕ) → ((k i : ℕ) → kind (f k i) ≡ g k i) → (counts : ℕ → ℕ)
-      → kind (least_to (λ j. least_to (f (suc j)) (suc (counts (suc j)))) BRANCHES) ≡ best_of g counts
-  kind_of f g e counts =
-      kind_best (λ j. least_to (f (suc j)) (suc (counts (suc j)))) (λ j. best (g (suc j)) (suc (counts (suc j))))
-      (λ j. kind_best (f (suc j)) (g (suc j)) (e (suc j)) (suc (counts (suc j)))) BRANCHES
+use Rattle.clashes.specs.Clashes.{all_clashes}
 
 -- ---- 21
 
@@ -55,25 +34,20 @@ module _ (w : ℕ → Told) (old : Facts) (branches : List Facts) (v : ContentVi
   has_of : (k n : ℕ) → T (two_contents w k n) → T ((w k).has n)
   has_of k n t = (and_yes ((w k).has n) _ (and_yes (fresh_content w k n) _ t).0).0
 
-  contents_low : (n : ℕ) → n ∈ content_clashes old branches → n < NONE
-  contents_low n m =
-      let x = clash_out w old branches v n m in
-      record_high n ((v.view x.0 x.1.1).record_has n (has_of x.0 n x.2))
-
   module _ (q : ℕ → Asked) (same : (k : ℕ) → (q k).has ≡ (w k).has) (number : ℕ → ℕ → ℕ) (counts : ℕ → ℕ) (met : Met q number counts) where
-    least-contents : best_of (λ k i. content_place w k (number k i)) counts ≡ least_or (content_clashes old branches)
+    least-contents : best_of (λ k i. content_place w k (number k i)) counts ≡ least_or_none (content_clashes old branches)
     least-contents =
-        best_of_is (content_clashes old branches) (λ k i. content_place w k (number k i)) counts contents_low
+        best_of_is (content_clashes old branches) (λ k i. content_place w k (number k i)) counts
         (λ k i b. place_in _ (two_contents w k (number k i)) (number k i) (clash_in w old branches v k (number k i) b)) found
       where
         found : (n : ℕ) → n ∈ content_clashes old branches
-            → (k : ℕ) × IsBranch k × ((i : ℕ) × (i < suc (counts k)) × (content_place w k (number k i) ≤ n))
+            → (k : ℕ) × IsBranch k × ((i : ℕ) × (i < suc (counts k)) × AtMost (content_place w k (number k i)) n)
         found n m =
             let x = clash_out w old branches v n m in
             let k = x.0 in
             let h : T ((q k).has n) = subst (λ (has : ℕ → Bool). T (has n)) (sym (same k)) (has_of k n x.2) in
             let i = met k x.1.1 n (or_right (eqb n TOP) ((q k).has n) h) in
-            (k, x.1, (i.0, i.1, subst (λ (z : ℕ). content_place w k z ≤ n) (sym i.2) (place-le (two_contents w k n) n x.2)))
+            (k, x.1, (i.0, i.1, subst (λ (z : ℕ). AtMost (content_place w k z) n) (sym i.2) (place-le (two_contents w k n) n x.2)))
 
 -- ---- in memory
 
@@ -97,15 +71,6 @@ module _ (texts lines facts : List (List ℕ)) (old : List Row) (branches : List
   views : Views (ask lines facts) (facts_of old) (map facts_of branches)
   views = ask_views texts lines facts old branches m
 
-  pub content_low : (n : ℕ) → n ∈ content_clashes (facts_of old) (map facts_of branches) → n < NONE
-  content_low = contents_low w O Bs told
-
-  pub parent_low : (n : ℕ) → n ∈ parent_clashes (facts_of old) (map facts_of branches) → n < NONE
-  parent_low = parents_low q O Bs views
-
-  pub neighbour_low : (n : ℕ) → n ∈ neighbour_clashes (facts_of old) (map facts_of branches) → n < NONE
-  neighbour_low = neighbours_low q O Bs views
-
   module _ (counts : List ℕ) (counted : (k : ℕ) → k < TABLES → get_or counts k 0 ≡ length (get_or (old ∷ branches) k [])) where
     abbrev count : ℕ → ℕ
     count k = get_or counts k 0
@@ -113,24 +78,14 @@ module _ (texts lines facts : List (List ℕ)) (old : List Row) (branches : List
     met : Met (ask lines facts) (number_on facts) (λ k. get_or counts k 0)
     met = ask_met texts lines facts old branches m counts counted
 
-    pub content-least : (all_clashes texts lines facts counts).content ≡ least_or (content_clashes (facts_of old) (map facts_of branches))
-    content-least =
-        kind_of (λ c. c.content) refl (λ a b. refl) (λ k i. clashes_at q w k (number_on facts k i))
-        (λ k i. content_place w k (number_on facts k i))
-        (λ k i. refl) count
-        ∙ least-contents w O Bs told q (λ k. refl) (number_on facts) count met
+    pub content-least : (all_clashes texts lines facts counts).content ≡ least_or_none
+        (content_clashes (facts_of old) (map facts_of branches))
+    content-least = least-contents w O Bs told q (λ k. refl) (number_on facts) count met
 
-    pub parent_least : (all_clashes texts lines facts counts).parent ≡ least_or (parent_clashes (facts_of old) (map facts_of branches))
-    parent_least =
-        kind_of (λ c. c.parent) refl (λ a b. refl) (λ k i. clashes_at q w k (number_on facts k i))
-        (λ k i. parent_place q k (number_on facts k i))
-        (λ k i. refl) count
-        ∙ least-parents q O Bs views (number_on facts) count met
+    pub parent_least : (all_clashes texts lines facts counts).parent ≡ least_or_none
+        (parent_clashes (facts_of old) (map facts_of branches))
+    parent_least = least-parents q O Bs views (number_on facts) count met
 
-    pub neighbour_least : (all_clashes texts lines facts counts).neighbour ≡ least_or
+    pub neighbour_least : (all_clashes texts lines facts counts).neighbour ≡ least_or_none
         (neighbour_clashes (facts_of old) (map facts_of branches))
-    neighbour_least =
-        kind_of (λ c. c.neighbour) refl (λ a b. refl) (λ k i. clashes_at q w k (number_on facts k i))
-        (λ k i. neighbour_place q k (number_on facts k i))
-        (λ k i. refl) count
-        ∙ least_neighbours q O Bs views (number_on facts) count met
+    neighbour_least = least_neighbours q O Bs views (number_on facts) count met

@@ -1,4 +1,3 @@
--- How the least places are found, and where there is none; and that they are those of the rules.
+-- Where nothing clashes; and that the least places that are found are those of the rules.
 pub mod Unmarked
-pub mod Steps
 pub mod Finding

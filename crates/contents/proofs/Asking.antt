@@ -11,7 +11,7 @@ use borrow.Author.Rules.{rules}
 use Rattle.rules.specs.Facts.{same_content}
 use Rattle.facts.specs.Memory.{TABLES, PLACE, LENGTH, SPAN, TEXTS, start_of, line_at, field_on, field}
 use Rattle.edits.specs.Branches.{first_branch, sum_branches}
-use Rattle.edits.proofs.Ways.{and_stop, place_is}
+use Rattle.edits.proofs.Ways.{and_stop}
 use Rattle.text.proofs.Texts.{text_at_lem}
 use Rattle.trees.proofs.Lists.{is_true}
 use Rattle.contents.specs.Contents.{Told, fresh_content, content_source, two_contents, content_origin}
@@ -83,8 +83,6 @@ module _ (texts lines facts marks : List (List ℕ)) (o : Noted texts lines fact
     two-first k f s q =
         two-asked k true f s
         (sym (is_true _ (equal_same ((told t).content n) ((told k).content n) (ap (λ (j : ℕ). (told j).content n) (sym q)))))
-
-pub ruleset asks = (same_both, place_is, rules)
 
 -- ---- where the kept content lies
 

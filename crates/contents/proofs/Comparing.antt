@@ -1,31 +1,23 @@
--- Two contents compared, one or eight bytes at a time; the last eight are looked at even where some of them were before. And a content
--- cut out of its text. a and b are the contents, i is the count of bytes that are equal so far, k the place of the last eight. Assumes
--- nothing.
+-- Two contents are equal exactly if their bytes are; eight at a time, the last eight may be looked at even where some of them were before.
+-- a and b are the contents, i is the count of bytes that are equal so far, k the place of the last eight. Assumes nothing.
 use mathlib.Core.Path.{◌≡◌, refl, sym, ap, ◌∙◌, subst}
-use mathlib.Core.Bool.{Bool, true, false, not, ◌&&◌, and-true}
-use mathlib.Core.List.{List, [], ◌∷◌, ◌++◌}
+use mathlib.Core.Bool.{Bool, ◌&&◌, and-true}
+use mathlib.Core.List.{◌++◌}
 use Prim.Native.Nat.{ℕ, suc, ◌+◌, ◌-◌, ◌<◌, ◌≤◌}
 use native.Mathlib.Omega.{arith}
-use native.Mathlib.Nat.{add-sub_cancel_left}
 use lib.Dec.{T, eqb}
 use lib.ListN.{length, get_or, take, drop, length-drop, take-append-drop}
-use lib.Seq.{take-add, take_all, take-take}
-use borrow.Author.Rules.{rules}
-use borrow.Author.Tests.{le-leb, lt-leb, not-true, not-false}
+use lib.Seq.{take_all, take-take}
 use Rattle.rules.specs.Line.{Content}
 use Rattle.rules.specs.Facts.{same_content}
 use Rattle.text.proofs.Places.{left-next}
-use Rattle.trees.proofs.Lists.{is_true, is_false, same_test}
+use Rattle.trees.proofs.Lists.{same_test}
 use Rattle.trees.proofs.Disagreeing.{content_equal, content_itself}
-use Rattle.contents.specs.Memory.{cut}
 
 -- ---- equal contents pass the test
 
 pub equal_same : (a b : Content) → a ≡ b → T (same_content a b)
 equal_same a b e = subst (λ (c : Content). T (same_content a c)) e (content_itself a)
-
-same_equal : (a b : Content) (z : Bool) → z ≡ same_content a b → z ≡ true → a ≡ b
-same_equal a b z e y = content_equal a b (subst T (sym y ∙ e) tt)
 
 -- ---- eight bytes
 
@@ -54,90 +46,31 @@ module _ (a b : Content) where
       (next 1 (i + 6) (i + 7) (omega arith) (omega arith) (omega arith) ∙ ap (λ (z : Bool). at (i + 6) && z)
       (next 0 (i + 7) (i + 8) (omega arith) (omega arith) (omega arith) ∙ and-true (at (i + 7))))))))))
 
-pub ruleset eights = (eight, rules)
-
 -- ---- the whole
 
 module _ (a b : Content) where
-  pub same_lengths : (length a ≡ length b → ⊥) → false ≡ same_content a b
-  same_lengths h = sym (is_false (same_content a b) (λ t. h (ap length (content_equal a b t))))
-
   -- the first i bytes are equal
   pub record Agree (i : ℕ) : Type 0 where
     pub long : length a ≡ length b
     pub low : i ≤ length a
     pub first : take i a ≡ take i b
 
-  pub agree_start : length a ≡ length b → Agree 0
-  agree_start e = record { long = e; low = omega arith; first = refl }
+  module _ (i : ℕ) (w : Agree i) (z : Bool) (k : ℕ) (q : k ≡ length a - 8) where
+    -- the bytes before the last eight are equal
+    pub eight-end : 8 ≤ length a → k ≤ i → z ≡ same_content (take 8 (drop k a)) (take 8 (drop k b)) → z ≡ same_content a b
+    eight-end h g e =
+        e ∙ (λ j. same_content (all a (omega arith) j) (all b (omega (arith, w.long)) j)) ∙ same_test _ _ to from
+      where
+        all : (s : Content) → length s ≡ length a → take 8 (drop k s) ≡ drop k s
+        all s e = take_all 8 (drop k s) (omega (arith, length-drop k s))
 
-  -- eight bytes differ
-  pub eight_stop : (i : ℕ) (z : Bool) → z ≡ same_content (take 8 (drop i a)) (take 8 (drop i b)) → not z ≡ true → false ≡ same_content a b
-  eight_stop i z e y =
-      sym (is_false (same_content a b) (λ t.
-      subst T (sym e ∙ not-true z y)
-      (equal_same (take 8 (drop i a)) (take 8 (drop i b)) (ap (λ (s : Content). take 8 (drop i s)) (content_equal a b t)))))
+        start : take k a ≡ take k b
+        start = sym (take-take k i a g) ∙ ap (take k) w.first ∙ take-take k i b g
 
-  module _ (i : ℕ) (w : Agree i) where
-    more : (m : ℕ) → i + m ≤ length a → take m (drop i a) ≡ take m (drop i b) → Agree (i + m)
-    more m h e = record {
-      long = w.long;
-      low = h;
-      first = take-add i m a ∙ (λ j. w.first j ++ e j) ∙ sym (take-add i m b);
-    }
+        to : T (same_content (drop k a) (drop k b)) → T (same_content a b)
+        to t =
+            equal_same a b (sym (take-append-drop k a) ∙ (λ j. start j ++ content_equal (drop k a) (drop k b) t j)
+            ∙ take-append-drop k b)
 
-    pub agree_low : i < length a → i < length b
-    agree_low h = omega (arith, w.long)
-
-    pub byte_on : i < length a → get_or a i 0 ≡ get_or b i 0 → Agree (i + 1)
-    byte_on h e =
-        more 1 (omega arith)
-        (ap (take 1) (left-next a i h) ∙ ap (λ (x : ℕ). x ∷ []) e ∙ sym (ap (take 1) (left-next b i (agree_low h))))
-
-    pub byte_stop : i < length a → (get_or a i 0 ≡ get_or b i 0 → ⊥) → false ≡ same_content a b
-    byte_stop h e = sym (is_false (same_content a b) (λ t. e (ap (λ (s : Content). get_or s i 0) (content_equal a b t))))
-
-    pub bytes-end : length a ≤ i → true ≡ same_content a b
-    bytes-end h =
-        sym (is_true (same_content a b) (equal_same a b
-        (sym (take_all i a h) ∙ w.first ∙ take_all i b (omega (arith, w.long)))))
-
-    module _ (z : Bool) (k : ℕ) (q : k ≡ length a - 8) where
-      pub eight-on : i < k → z ≡ same_content (take 8 (drop i a)) (take 8 (drop i b)) → not z ≡ false → Agree (i + 8)
-      eight-on h e y = more 8 (omega arith) (same_equal (take 8 (drop i a)) (take 8 (drop i b)) z e (not-false z y))
-
-      -- the bytes before the last eight are equal
-      pub eight-end : 8 ≤ length a → k ≤ i → z ≡ same_content (take 8 (drop k a)) (take 8 (drop k b)) → z ≡ same_content a b
-      eight-end h g e =
-          e ∙ (λ j. same_content (all a (omega arith) j) (all b (omega (arith, w.long)) j)) ∙ same_test _ _ to from
-        where
-          all : (s : Content) → length s ≡ length a → take 8 (drop k s) ≡ drop k s
-          all s e = take_all 8 (drop k s) (omega (arith, length-drop k s))
-
-          start : take k a ≡ take k b
-          start = sym (take-take k i a g) ∙ ap (take k) w.first ∙ take-take k i b g
-
-          to : T (same_content (drop k a) (drop k b)) → T (same_content a b)
-          to t =
-              equal_same a b (sym (take-append-drop k a) ∙ (λ j. start j ++ content_equal (drop k a) (drop k b) t j)
-              ∙ take-append-drop k b)
-
-          from : T (same_content a b) → T (same_content (drop k a) (drop k b))
-          from t = equal_same (drop k a) (drop k b) (ap (drop k) (content_equal a b t))
-
-pub ruleset shorts = (agree_start, agree_low, byte_on, byte_stop, bytes-end, rules)
-
-pub ruleset longs = (agree_start, eight-on, eight_stop, eight-end, rules)
-
-pub ruleset compares = (same_lengths, rules)
-
--- ---- a part of a text
-
-module _ (text : List ℕ) (start long : ℕ) where
-  pub cut_in : start + long ≤ length text → take (start + long - start) (drop start text) ≡ cut text start long
-  cut_in h = rw (add-sub_cancel_left start long, le-leb (start + long) (length text) h)
-
-  pub cut_out : length text < start + long → [] ≡ cut text start long
-  cut_out h = rw (lt-leb (start + long) (length text) h)
-
-pub ruleset cuts = (cut_in, cut_out, rules)
+        from : T (same_content a b) → T (same_content (drop k a) (drop k b))
+        from t = equal_same (drop k a) (drop k b) (ap (drop k) (content_equal a b t))

@@ -5,6 +5,7 @@ pub mod Comparing
 pub mod Asking
 pub mod Sources
 pub mod Marking
+pub mod Folding
 pub mod Clashing
 pub mod Keeping
 pub mod Origins

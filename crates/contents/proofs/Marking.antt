@@ -6,14 +6,13 @@ use mathlib.Core.Path.{◌≡◌, refl, sym, ap, ◌∙◌, subst}
 use mathlib.Core.Bool.{Bool, true, false, not, ◌&&◌, ◌||◌}
 use mathlib.Core.List.Memᴰ.{head as here}
 use mathlib.Core.List.Memᴰ.{tail as there}
-use mathlib.Core.List.{List, [], ◌∷◌}
+use mathlib.Core.List.{List, [], ◌∷◌, ◌++◌, map-append}
 use Prim.Native.Nat.{ℕ, ◌+◌, ◌%◌, ◌<◌, ◌≤◌}
 use native.Mathlib.Omega.{arith}
 use native.Mathlib.Decide.{ℕ_discrete}
 use lib.Dec.{eqb, ltb}
-use lib.ListN.{length, get_or, set, length-set}
+use lib.ListN.{length, get_or, set, get_or-append, length-map}
 use lib.Seq.{get_or-set_same, get_or-set_other}
-use borrow.Author.Rules.{rules}
 use borrow.Author.Tests.{lt-ltb}
 use borrow.Author.Count.{below_more}
 use Rattle.rules.specs.Marks.{TOP, START}
@@ -21,13 +20,16 @@ use Rattle.rules.specs.Line.{Row}
 use Rattle.rules.specs.Facts.{same_content}
 use Rattle.trees.proofs.OneTable.{number_record}
 use Rattle.trees.proofs.Marks.{record_high}
-use Rattle.facts.specs.Memory.{ROOM, TABLES, line_at}
+use Rattle.facts.specs.Memory.{TABLES, line_at}
 use Rattle.facts.specs.Holds.{Holds}
 use Rattle.facts.proofs.Shown.{top_line}
 use Rattle.edits.specs.Memory.{number_on, alike_on, unmoved}
 use Rattle.contents.specs.Contents.{fresh_content}
 use Rattle.contents.specs.Memory.{content_on, tell}
 use Rattle.contents.specs.Marks.{LinedTable, Lined, mark_of, mark_on, MarkedTable, Marked, edited_in, Noted}
+use Rattle.contents.specs.Marks.{mark_number, row_of_marks, marks_of}
+use Rattle.contents.specs.declared.marks.Mark.{Mark}
+use Rattle.std.proofs.lemmas.List.{map-set}
 use Rattle.contents.specs.Tables.{SideBySide}
 
 -- ---- the mark of a line
@@ -65,26 +67,27 @@ module _ (texts lines facts : List (List ℕ)) (t i : ℕ) (own : line_at (get_o
 
 module _ (texts lines facts : List (List ℕ)) (t : ℕ) where
   -- the lines before i are marked
-  pub record Filling (row : List ℕ) (i : ℕ) : Type 0 where
-    pub long : length row ≡ ROOM
-    pub done : (l : ℕ) → l < i → get_or row l 0 ≡ mark_on texts lines facts t l
+  abbrev pub Filled : List Mark → ℕ → Type 0
+  Filled row i = (l : ℕ) → l < i → get_or (row_of_marks row) l 0 ≡ mark_on texts lines facts t l
 
-  pub fill_start : (row : List ℕ) → length row ≡ ROOM → Filling row 0
-  fill_start row e = record { long = e; done = λ l h. absurd (omega arith) }
+  pub fill_on : (row : List Mark) (i : ℕ) (m : Mark) → i < length row → Filled row i → mark_number m ≡ mark_on texts lines facts t i
+      → Filled (set row i m) (i + 1)
+  fill_on row i m h w e =
+      let stored : row_of_marks (set row i m) ≡ set (row_of_marks row) i (mark_number m) = map-set mark_number row i m in
+      below_more (λ l. get_or (row_of_marks (set row i m)) l 0 ≡ mark_on texts lines facts t l) i
+      (λ l g. ap (λ (z : List ℕ). get_or z l 0) stored ∙ get_or-set_other (row_of_marks row) i l (mark_number m) 0
+      (λ q. omega (arith, g, q)) ∙ w l g)
+      (ap (λ (z : List ℕ). get_or z i 0) stored
+      ∙ get_or-set_same (row_of_marks row) i (mark_number m) 0 (omega (arith, h, length-map row mark_number)) ∙ e)
 
-  pub fill_on : (row : List ℕ) (i v count : ℕ) → Filling row i → i ≤ count → count < ROOM → v ≡ mark_on texts lines facts t i
-      → Filling (set row i v) (i + 1)
-  fill_on row i v count w h low e = record {
-    long = length-set row i v ∙ w.long;
-    done = below_more (λ l. get_or (set row i v) l 0 ≡ mark_on texts lines facts t l) i
-        (λ l g. get_or-set_other row i l v 0 (λ q. omega arith) ∙ w.done l g)
-        (get_or-set_same row i v 0 (omega (arith, w.long)) ∙ e);
-  }
-
-  pub fill_end : (row : List ℕ) (i count : ℕ) → Filling row i → count < i → MarkedTable texts lines facts t count row
-  fill_end row i count w h = record { on = λ l g. w.done l (omega arith) }
-
-pub ruleset fills = (fill_start, fill_on, fill_end, rules)
+  pub fill_end : (row rest : List Mark) (i count : ℕ) → i ≤ length row → Filled row i → count < i
+      → MarkedTable texts lines facts t count (row_of_marks (row ++ rest))
+  fill_end row rest i count high w h =
+      record {
+        on = λ l g. ap (λ (z : List ℕ). get_or z l 0) (map-append mark_number row rest)
+            ∙ get_or-append (row_of_marks row) (row_of_marks rest) 0 l (omega (arith, h, g, high, length-map row mark_number))
+            ∙ w l (omega (arith, h, g));
+      }
 
 -- ---- all branches
 
@@ -95,23 +98,37 @@ module _ (texts lines facts : List (List ℕ)) (counts : List ℕ) where
     pub done : (k : ℕ) → 0 < k → k < t → MarkedTable texts lines facts k (get_or counts k 0) (get_or marks k [])
 
   pub marking_start : (marks : List (List ℕ)) → Marking marks 1
-  marking_start marks = record { low = omega arith; done = λ k l h. absurd (omega arith) }
+  marking_start marks = record { low = omega arith; done = λ k l h. absurd (omega (arith, l, h)) }
 
-  pub marking_on : (marks marks' : List (List ℕ)) (t : ℕ) → Marking marks t → marks' ≡ set marks t (get_or marks' t [])
-      → MarkedTable texts lines facts t (get_or counts t 0) (get_or marks' t []) → Marking marks' (t + 1)
-  marking_on marks marks' t w e new = record {
-    low = omega arith;
-    done = λ k l h. below_more (λ k. 0 < k → MarkedTable texts lines facts k (get_or counts k 0) (get_or marks' k [])) t
-        (λ k g l. subst (MarkedTable texts lines facts k (get_or counts k 0)) (stays k (λ q. omega arith)) (w.done k l g)) (λ l. new) k h l;
+  abbrev MarkedIn : List Mark → List (List Mark) → ℕ → ℕ → Type 0
+  MarkedIn row marks s k = MarkedTable texts lines facts k (get_or counts k 0) (get_or (marks_of (set marks s row)) k [])
+
+  -- the loop is at side s, which is branch t
+  pub marking_on : (marks : List (List Mark)) (t s count : ℕ) (row : List Mark) → t < length marks → s ≡ t → Marking (marks_of marks) t
+      → count ≡ get_or counts s 0 → MarkedTable texts lines facts s count (row_of_marks row) → Marking (marks_of (set marks s row)) (t + 1)
+  marking_on marks t s count row h e w f new = record {
+    low = omega (arith, w.low);
+    done = λ k l g. below_more (λ k. 0 < k → MarkedIn row marks s k) t
+        (λ k g l. subst (MarkedTable texts lines facts k (get_or counts k 0)) (stays k (λ q. omega (arith, g, q, e))) (w.done k l g))
+        (λ l. subst (MarkedIn row marks s) e last) k g l;
   }
     where
-      stays : (k : ℕ) → (k ≡ t → ⊥) → get_or marks k [] ≡ get_or marks' k []
-      stays k h = sym (ap (λ (m : List (List ℕ)). get_or m k []) e ∙ get_or-set_other marks t k (get_or marks' t []) [] h)
+      stored : marks_of (set marks s row) ≡ set (marks_of marks) s (row_of_marks row)
+      stored = map-set row_of_marks marks s row
+
+      stays : (k : ℕ) → (k ≡ s → ⊥) → get_or (marks_of marks) k [] ≡ get_or (marks_of (set marks s row)) k []
+      stays k q = sym (ap (λ (m : List (List ℕ)). get_or m k []) stored ∙ get_or-set_other (marks_of marks) s k (row_of_marks row) [] q)
+
+      own : get_or (marks_of (set marks s row)) s [] ≡ row_of_marks row
+      own = ap (λ (m : List (List ℕ)). get_or m s []) stored
+          ∙ get_or-set_same (marks_of marks) s (row_of_marks row) [] (omega (arith, h, e, length-map marks row_of_marks))
+
+      last : MarkedIn row marks s s
+      last = subst (λ (n : ℕ). MarkedTable texts lines facts s n (get_or (marks_of (set marks s row)) s [])) f
+          (subst (MarkedTable texts lines facts s count) (sym own) new)
 
   pub marking_end : (marks : List (List ℕ)) (t : ℕ) → Marking marks t → TABLES ≤ t → Marked texts lines facts counts marks
-  marking_end marks t w h = record { branches = λ k l g. w.done k l (omega arith) }
-
-pub ruleset markings = (marking_start, rules)
+  marking_end marks t w h = record { branches = λ k l g. w.done k l (omega (arith, g, h)) }
 
 -- ---- what a mark says
 
@@ -134,6 +151,14 @@ mark_none : (edit alike : Bool) → mark_of edit alike ≡ 0 → edit ≡ false
 mark_none false alike e = refl
 mark_none true true e = absurd (omega arith)
 mark_none true false e = absurd (omega arith)
+
+pub mark_stands : (m : Mark) → m.position ≡ false → mark_number m < 2
+mark_stands m e = go m.content m.position e
+  where
+    go : (edit moved : Bool) → moved ≡ false → mark_of edit (not moved) < 2
+    go edit true h = absurd (cc h)
+    go true false h = omega arith
+    go false false h = omega arith
 
 module _ (texts lines facts : List (List ℕ)) (k i v : ℕ) (e : v ≡ mark_on texts lines facts k i) where
   -- the record on the line stands as in old

@@ -1,17 +1,14 @@
 -- The loop that finds the first branch that passes a test and the sum of all that do. k and t are tables, m is a count of tables, `table`
 -- is the first branch so far, or 0, `origin` the sum so far. Assumes nothing.
-use mathlib.Core.Path.{◌≡◌, refl, sym, ap, ◌∙◌, subst}
+use mathlib.Core.Path.{◌≡◌, refl, sym, ap, ◌∙◌}
 use mathlib.Core.Bool.{Bool, true, false, cond}
 use Prim.Native.Nat.{ℕ, zero, suc, ◌+◌, ◌-◌, ◌<◌, ◌≤◌}
 use native.Mathlib.Omega.{arith}
-use native.Mathlib.Decide.{ℕ_discrete}
 use native.Mathlib.Numerals.{suc-eq-add-one}
 use mir.Val.{Fits}
 use mir.Syntax.{w64}
-use borrow.Author.Rules.{rules}
 use Rattle.facts.specs.Memory.{TABLES, BRANCHES}
 use Rattle.edits.specs.Branches.{first_from, first_branch, sum_from, sum_branches}
-use Rattle.edits.proofs.Branches.{Left, left-start, left_here, left-on, left_end}
 
 -- ---- two tests that answer the same of each branch
 
@@ -57,67 +54,48 @@ module _ (test : ℕ → Bool) where
 
   -- ---- the loop
 
-  pub record Seeking (t table origin : ℕ) : Type 0 where
-    pub low : 0 < t
-    pub few : table < TABLES
-    pub none : table ≡ 0 → Left test t
-    pub found : (table ≡ 0 → ⊥) → table ≡ first_branch test
-    pub sum : origin + sum_from test t (TABLES - t) ≡ sum_branches test
+  -- the sum of the branches before t
+  pub Summing : (t origin : ℕ) → Type 0
+  Summing t origin = origin + sum_from test t (TABLES - t) ≡ sum_branches test
 
-  pub seek_start : Seeking 1 0 0
-  seek_start = record { low = omega arith; few = omega arith; none = λ e. left-start test; found = λ h. absurd (h refl); sum = omega arith }
+  pub sum_start : Summing 1 0
+  unfolding Summing
+  sum_start = omega arith
 
-  module _ (t table origin : ℕ) (w : Seeking t table origin) where
-    pub seek_small : origin ≤ 3
-    seek_small = omega (arith, w.sum, sum_bound)
+  pub sum_small : (t origin : ℕ) → Summing t origin → origin ≤ 3
+  unfolding Summing
+  sum_small t origin w = omega (arith, w, sum_bound)
 
-    pub seek_fits : t < TABLES → Fits w64 (origin + t)
-    seek_fits h = record { fits = omega (arith, seek_small) }
+  pub sum_fits : (t origin s : ℕ) → t < TABLES → s ≡ t → Summing t origin → Fits w64 (origin + s)
+  sum_fits t origin s h e w = record { fits = omega (arith, sum_small t origin w, h, e) }
 
-    module _ (z : Bool) (h : t < TABLES) (e : z ≡ test t) where
-      counted : (b : Bool) → z ≡ b → origin + cond b t 0 + sum_from test (t + 1) (TABLES - (t + 1)) ≡ sum_branches test
-      counted b y =
-          let s : sum_from test t (TABLES - t) ≡ cond b t 0 + sum_from test (t + 1) (TABLES - (t + 1)) =
-          sum_step t h ∙ ap (λ (c : Bool). cond c t 0 + sum_from test (t + 1) (TABLES - (t + 1))) (sym e ∙ y) in
-          omega (arith, s, w.sum)
+  pub sum_on : (t origin s : ℕ) (z b : Bool) → t < TABLES → s ≡ t → Summing t origin → z ≡ test t → z ≡ b
+      → Summing (t + 1) (origin + cond b s 0)
+  unfolding Summing
+  sum_on t origin s z b h e w asked y =
+      let next : sum_from test t (TABLES - t) ≡ cond b t 0 + sum_from test (t + 1) (TABLES - (t + 1)) =
+      sum_step t h ∙ ap (λ (c : Bool). cond c t 0 + sum_from test (t + 1) (TABLES - (t + 1))) (sym asked ∙ y) in
+      let same : cond b s 0 ≡ cond b t 0 = ap (λ (k : ℕ). cond b k 0) e in
+      omega (arith, next, w, same)
 
-      -- the first that passes
-      pub seek_first : z ≡ true → table ≡ 0 → Seeking (t + 1) t (origin + t)
-      seek_first y q = record {
-        low = omega arith;
-        few = h;
-        none = λ p. absurd (omega (arith, w.low));
-        found = λ p. left_here test t z (w.none q) h e y;
-        sum = counted true y;
-      }
+  pub sum_end : (t origin : ℕ) → TABLES ≤ t → Summing t origin → origin ≡ sum_branches test
+  unfolding Summing
+  sum_end t origin h w =
+      let m : TABLES - t ≡ 0 = omega (arith, h) in
+      let none : sum_from test t (TABLES - t) ≡ 0 = ap (sum_from test t) m in
+      omega (arith, none, w)
 
-      -- one more
-      pub seek_more : z ≡ true → (table ≡ 0 → ⊥) → Seeking (t + 1) table (origin + t)
-      seek_more y q = record { low = omega arith; few = w.few; none = λ p. absurd (q p); found = w.found; sum = counted true y }
+  -- where none passes, the sum is 0
+  pub no_sum : first_branch test ≡ 0 → sum_branches test ≡ 0
+  no_sum = go (test 1) (test 2)
+    where
+      one : ◌≡◌ {A = ℕ} 1 0 → ⊥
+      one e = omega (arith, e)
 
-      pub seek_on : z ≡ false → Seeking (t + 1) table origin
-      seek_on y = record {
-        low = omega arith;
-        few = w.few;
-        none = λ p. left-on test t z (w.none p) h e y;
-        found = w.found;
-        sum = let s = counted false y in omega (arith, s);
-      }
+      two : ◌≡◌ {A = ℕ} 2 0 → ⊥
+      two e = omega (arith, e)
 
-    pub seek_moved : {table' origin' : ℕ} → table' ≡ table → origin' ≡ origin → Seeking t table' origin'
-    seek_moved {table'} {origin'} p q = subst (λ (a : ℕ). Seeking t a origin') (sym p) (subst (Seeking t table) (sym q) w)
-
-    pub seek_table : TABLES ≤ t → table ≡ first_branch test
-    seek_table h = elim (ℕ_discrete table 0) [ yes e ↦ e ∙ left_end test t (w.none e) h | no e ↦ w.found e ]
-
-    pub seek_origin : TABLES ≤ t → origin ≡ sum_branches test
-    seek_origin h =
-        let m : TABLES - t ≡ 0 = omega arith in
-        let s : sum_from test t (TABLES - t) ≡ 0 = ap (sum_from test t) m in
-        omega (arith, s, w.sum)
-
-    pub seek_few : table < TABLES
-    seek_few = w.few
-
-pub ruleset seeks =
-    (seek_start, seek_small, seek_fits, seek_first, seek_more, seek_on, seek_table, seek_origin, seek_few, rules)
+      go : (a b : Bool) → ◌≡◌ {A = ℕ} (cond a 1 (cond b 2 0)) 0 → ◌≡◌ {A = ℕ} (cond a 1 0 + (cond b 2 0 + 0)) 0
+      go true b e = absurd (one e)
+      go false true e = absurd (two e)
+      go false false e = refl

@@ -1,6 +1,6 @@
 -- Edits and clashes of contents, read off what the tables tell: w k is told of table k, and table 0 is old. n is a record. Assumes
 -- nothing.
-use Rattle.std.specs.Prelude.{Bool, not, ◌&&◌, ℕ}
+use Rattle.std.specs.Prelude.{Bool, not, ◌&&◌, ℕ, Option}
 use Rattle.rules.specs.Line.{Content}
 use Rattle.rules.specs.Facts.{same_content}
 use Rattle.edits.specs.Branches.{first_branch, sum_branches}
@@ -24,7 +24,7 @@ module _ (w : ℕ → Told) where
   abbrev pub two_contents : ℕ → ℕ → Bool
   two_contents k n = fresh_content k n && not (same_content ((w k).content n) ((w (content_source n)).content n))
 
-  abbrev pub content_place : ℕ → ℕ → ℕ
+  abbrev pub content_place : ℕ → ℕ → Option ℕ
   content_place k n = place (two_contents k n) n
 
   -- "1 if only first has it, 2 if only second, 3 if both": where no two edits clash, the sum of the branches with an edit

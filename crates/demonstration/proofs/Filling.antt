@@ -1,22 +1,43 @@
--- The three buffers are filled one after another. b are the buffers, n the counts of bytes read, t is a file; a name with a prime is what
--- it is after a file was read. Assumes nothing.
-use mathlib.Core.Path.{◌≡◌, sym, ap, ◌∙◌, subst}
-use mathlib.Core.List.{List, []}
-use Prim.Native.Nat.{ℕ, ◌+◌, ◌<◌, ◌≤◌}
+-- The three buffers are filled one after another. fs are the files, b their buffers, n the counts of bytes read, t is a file; a name with
+-- a prime is what it is after a file was read. Assumes nothing.
+use mathlib.Core.Path.{◌≡◌, refl, sym, ap, ◌∙◌, subst}
+use mathlib.Core.List.{List, [], ◌∷◌}
+use Prim.Native.Nat.{ℕ, zero, suc, ◌+◌, ◌<◌, ◌≤◌}
 use native.Mathlib.Omega.{arith}
 use lib.ListN.{length, get_or, set, take, length-set}
 use lib.Seq.{get_or-set_same, get_or-set_other}
 use borrow.Author.Count.{below_none, below_more}
-use borrow.Author.Rules.{rules}
+use Rattle.std.specs.Prelude.{map}
 use Rattle.std.specs.Counts.{IsPrefixLen}
+use Rattle.demonstration.specs.declared.file.File.{File}
 use Rattle.demonstration.specs.Printed.{Shows, printed}
-use Rattle.demonstration.specs.Files.{files, text_in, printed_of, Filled, ReadTo}
+use Rattle.demonstration.specs.Files.{files, buffers, lengths, text_in, printed_of, Filled, ReadTo}
 
--- one buffer of them is lent, and comes back with the bytes counted
-pub filled : (b : List (List ℕ)) (t k : ℕ) (row : List ℕ) → length b ≡ files → t < files → IsPrefixLen k row → Filled b t k (set b t row)
-filled b t k row long h counts =
-    let same : get_or (set b t row) t [] ≡ row = get_or-set_same b t row [] (omega (arith, long, h)) in
-    record { counts = subst (IsPrefixLen k) (sym same) counts; others = ap (set b t) (sym same) }
+-- ---- the files as they lie in memory
+
+-- of every file the bytes counted lie in its buffer: its type says so
+file_counted : (fs : List File) (t : ℕ) → IsPrefixLen (get_or (lengths fs) t 0) (get_or (buffers fs) t [])
+file_counted [] t = (omega arith, refl)
+file_counted (f ∷ fs) zero = f.counted
+file_counted (f ∷ fs) (suc t) = file_counted fs t
+
+module _ {B : Type 0} (view : File → B) (d : B) where
+  map-set : (fs : List File) (t : ℕ) (f : File) → t < length fs
+      → map view (set fs t f) ≡ set (map view fs) t (get_or (map view (set fs t f)) t d)
+  map-set [] t f h = refl
+  map-set (g ∷ fs) zero f h = refl
+  map-set (g ∷ fs) (suc t) f h = ap (λ xs. view g ∷ xs) (map-set fs t f (omega (arith, h)))
+
+-- one file of them is lent, and comes back with the bytes counted
+pub filled : (fs : List File) (t : ℕ) (f : File) → t < length fs
+    → Filled (buffers fs) t (get_or (lengths (set fs t f)) t 0) (buffers (set fs t f))
+filled fs t f h = record { counts = file_counted (set fs t f) t; others = map-set (λ f. f.bytes) [] fs t f h }
+
+pub counted_there : (fs : List File) (t : ℕ) (f : File) → t < length fs
+    → lengths (set fs t f) ≡ set (lengths fs) t (get_or (lengths (set fs t f)) t 0)
+counted_there fs t f h = map-set (λ f. f.length) 0 fs t f h
+
+-- ---- one file after another
 
 -- files up to t are read, of three
 pub record Going (b : List (List ℕ)) (n : List ℕ) (t : ℕ) : Type 0 where
@@ -55,13 +76,6 @@ module _ (b : List (List ℕ)) (n : List ℕ) (t k : ℕ) (b' : List (List ℕ))
       here : IsPrefixLen (get_or (set n t k) t 0) (get_or b' t [])
       here = subst (λ (m : ℕ). IsPrefixLen m (get_or b' t [])) (sym (get_or-set_same n t k 0 (omega (arith, g.counts, h)))) w.counts
 
-pub going_end : (b : List (List ℕ)) (n : List ℕ) (t : ℕ) → Going b n t → ReadTo b n t
-going_end b n t g = g.read
-
--- the text of a file is counted
-pub counted : (b : List (List ℕ)) (n : List ℕ) (t : ℕ) → ReadTo b n files → t < files → IsPrefixLen (get_or n t 0) (get_or b t [])
-counted b n t w h = w.counted t h
-
 -- what is shown of the three texts is what is to be printed
 pub shown-printed : (b : List (List ℕ)) (n old first second : List ℕ) (k : ℕ) (out : List ℕ) → old ≡ text_in b n 0 → first ≡ text_in b n 1
     → second ≡ text_in b n 2 → Shows old first second k out → take k out ≡ printed_of b n
@@ -71,4 +85,4 @@ shown-printed b n old first second k out p q r w = w.bytes ∙ λ i. printed (p 
 pub all_read : (b : List (List ℕ)) (n : List ℕ) (t : ℕ) → ReadTo b n t → t ≤ files → (t < files → ⊥) → ReadTo b n files
 all_read b n t w h end = record { counted = λ u l. w.counted u (omega (arith, h, l, end)) }
 
-pub ruleset fillings = (filled, going_start, going_stop, going_on, going_end, counted, shown-printed, all_read, rules)
+pub ruleset fillings = (going_start, going_stop, going_on, all_read)

@@ -52,3 +52,5 @@ numbers-long m =
       field-long m.table_length TAB e,
       field-long m.ledger_length LF [],
     )
+
+pub ruleset lengths = (numbers-long)

@@ -1,8 +1,9 @@
 -- The three files of the demonstration: old, first and second, each with a buffer of its own and the count of bytes that were read into
 -- it. t is a file. Assumes nothing.
-use Rattle.std.specs.Prelude.{◌≡◌, List, [], ℕ, ◌<◌, get_or, set, take}
+use Rattle.std.specs.Prelude.{◌≡◌, List, [], ℕ, ◌<◌, Result, Ok, Err, ⊤, map, get_or, set, take}
 use Rattle.std.specs.Counts.{IsPrefixLen}
 use Rattle.demonstration.specs.Printed.{printed}
+use Rattle.demonstration.specs.declared.file.File.{File}
 
 -- "`old.txt`, `first.txt`, `second.txt`"
 abbrev pub files : ℕ
@@ -11,6 +12,19 @@ files = 3
 -- "at most 32,769 bytes of each"
 abbrev pub most_read : ℕ
 most_read = 32769
+
+-- the buffers of the files, and the counts of bytes read into them
+
+abbrev pub buffers : List File → List (List ℕ)
+buffers fs = map (λ f. f.bytes) fs
+
+abbrev pub lengths : List File → List ℕ
+lengths fs = map (λ f. f.length) fs
+
+-- how many files were read: all, or those before the one that is told
+abbrev pub count_read : Result ⊤ ℕ → ℕ
+count_read (Ok _) = files
+count_read (Err t) = t
 
 -- the text of a file: so many bytes of its buffer as were read
 abbrev pub text_in : List (List ℕ) → List ℕ → ℕ → List ℕ

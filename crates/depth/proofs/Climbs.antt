@@ -1,17 +1,17 @@
 -- Climbing, step by step: steps enough change nothing, and a noted depth stays right. ls and fs are a table's arrays, l is a line, ds
 -- are the depths noted so far. Assumes nothing.
-use mathlib.Core.Path.{◌≡◌, refl, sym, ap, ◌∙◌}
+use mathlib.Core.Path.{◌≡◌, sym, ap, ◌∙◌}
 use mathlib.Core.List.{List}
-use Prim.Native.Nat.{ℕ, zero, suc, max, ◌+◌, ◌<◌, ◌≤◌}
+use Rattle.std.proofs.Common.{Option, None, Some}
+use Prim.Native.Nat.{ℕ, zero, suc, ◌+◌, ◌<◌, ◌≤◌}
 use native.Mathlib.Omega.{arith}
 use native.Mathlib.Numerals.{add-one}
 use native.Mathlib.Decide.{ℕ_discrete}
 use lib.ListN.{get_or, set, length, replicate}
 use lib.Seq.{get_or-set_same, get_or-set_other}
-use borrow.Author.Rules.{rules}
 use borrow.Author.Tests.{eq-eqb, ne_eqb}
 use Rattle.facts.specs.Memory.{ROOM, PARENT, line_at, field_on}
-use Rattle.depth.specs.Climbing.{up_line, climb, depth_on, greatest_on, Climbs, Noted}
+use Rattle.depth.specs.Climbing.{up_line, climb, depth_on, Climbs, Noted}
 
 -- ---- steps
 
@@ -63,12 +63,6 @@ module _ (ls fs : List ℕ) where
           step ih (yes e) = rw (eq-eqb k 0 e) (omega arith)
           step ih (no e) = let u = c.up k (omega arith) h in omega (arith, more f k e, ih (up_line ls fs k) (omega arith))
 
-  -- the parent's line can be climbed from as well
-  pub climbs_up : (l u : ℕ) → Climbs ls fs l → (l ≡ 0 → ⊥) → u ≡ up_line ls fs l → Climbs ls fs u
-  climbs_up l u c e q =
-      let h = c.up l (omega arith) (omega arith) in
-      record { room = omega (arith, c.room, q); up = λ k a b. c.up k a (omega (arith, q)) }
-
   pub up_lt : (l u : ℕ) → Climbs ls fs l → (l ≡ 0 → ⊥) → u ≡ up_line ls fs l → u < l
   up_lt l u c e q = let h = c.up l (omega arith) (omega arith) in omega (arith, q)
 
@@ -77,48 +71,24 @@ module _ (ls fs : List ℕ) where
 
   -- ---- notes
 
-  pub noted_here : (ds : List ℕ) (l v : ℕ) → Noted ls fs ds → v ≡ get_or ds l 0 → 0 < v → v ≡ depth_on ls fs l
-  noted_here ds l v w e h = e ∙ w.right l (omega arith)
-
-  pub noted_none : Noted ls fs (replicate ROOM 0)
-  noted_none = record { right = λ l h. absurd (omega (arith, zeros ROOM l)) }
+  pub noted_none : Noted ls fs (replicate ROOM None)
+  noted_none = record { right = λ l d e. absurd (blank ROOM l d e) }
     where
-      zeros : (n k : ℕ) → get_or (replicate {A = ℕ} n 0) k 0 ≡ 0
-      zeros zero k = refl
-      zeros (suc n) zero = refl
-      zeros (suc n) (suc k) = zeros n k
+      blank : (n k d : ℕ) → get_or (replicate n None) k None ≡ Some d → ⊥
+      blank zero k d e = cc
+      blank (suc n) zero d e = cc
+      blank (suc n) (suc k) d e = blank n k d e
 
   -- one more depth is noted
-  pub noted_more : (ds : List ℕ) (l d : ℕ) → Noted ls fs ds → l < length ds → d ≡ depth_on ls fs l → Noted ls fs (set ds l d)
-  noted_more ds l d w h e = record { right = λ k. go k (ℕ_discrete k l) }
+  pub noted_more : (ds : List (Option ℕ)) (l d : ℕ) → Noted ls fs ds → l < length ds → d ≡ depth_on ls fs l
+      → Noted ls fs (set ds l (Some d))
+  noted_more ds l d w h e = record { right = λ k x. go k x (ℕ_discrete k l) }
     where
-      go : (k : ℕ) → Dec (k ≡ l) → 0 < get_or (set ds l d) k 0 → get_or (set ds l d) k 0 ≡ depth_on ls fs k
-      go k (yes q) i = ap (λ (j : ℕ). get_or (set ds l d) j 0) q ∙ get_or-set_same ds l d 0 h ∙ e ∙ ap (depth_on ls fs) (sym q)
-      go k (no q) i = let s = get_or-set_other ds l k d 0 q in s ∙ w.right k (omega arith)
+      go : (k x : ℕ) → Dec (k ≡ l) → get_or (set ds l (Some d)) k None ≡ Some x → x ≡ depth_on ls fs k
+      go k x (yes q) i =
+          let s : get_or (set ds l (Some d)) k None ≡ Some d =
+          ap (λ (j : ℕ). get_or (set ds l (Some d)) j None) q ∙ get_or-set_same ds l (Some d) None h in
+          let f : x ≡ d = cc in f ∙ e ∙ ap (depth_on ls fs) (sym q)
+      go k x (no q) i = let s = get_or-set_other ds l k (Some d) None q in w.right k x (sym s ∙ i)
 
-  -- ---- the greatest of the first lines
-
-  pub record Deepest (count : ℕ) (ds : List ℕ) (best l : ℕ) : Type 0 where
-    pub within : l ≤ count
-    pub greatest : best ≡ greatest_on ls fs l
-    pub noted : Noted ls fs ds
-
-  pub deepest_start : (count : ℕ) → Deepest count (replicate ROOM 0) 0 0
-  deepest_start count = record { within = omega arith; greatest = refl; noted = noted_none }
-
-  pub climbs_line : (count l : ℕ) → Climbs ls fs count → l < count → Climbs ls fs (l + 1)
-  climbs_line count l c h = record { room = omega (arith, c.room); up = λ k a b. c.up k a (omega arith) }
-
-  pub deepest_on : (count : ℕ) (ds ds' : List ℕ) (best l d best' : ℕ) → Deepest count ds best l → l < count → d ≡ depth_on ls fs (l + 1)
-      → Noted ls fs ds' → best' ≡ max best d → Deepest count ds' best' (l + 1)
-  deepest_on count ds ds' best l d best' w h e n q = record {
-    within = omega arith;
-    greatest = q ∙ (λ i. max (w.greatest i) (e i)) ∙ (λ i. max (greatest_on ls fs l) (depth_on ls fs (add-one l i)))
-        ∙ ap (greatest_on ls fs) (sym (add-one l));
-    noted = n;
-  }
-
-  pub deepest_end : (count : ℕ) (ds : List ℕ) (best l : ℕ) → Deepest count ds best l → count ≤ l → best ≡ greatest_on ls fs count
-  deepest_end count ds best l w h = let d : l ≡ count = omega (arith, w.within) in w.greatest ∙ ap (greatest_on ls fs) d
-
-pub ruleset climbing = (deepest_start, climbs_line, deepest_on, deepest_end, rules)
+pub ruleset climbing = (climb_top, climb-le, up_lt, one_more, noted_more)

@@ -3,7 +3,7 @@
 use mathlib.Core.Path.{◌≡◌, refl, sym, ap, ◌∙◌, subst}
 use mathlib.Core.Bool.{Bool, true, false, not, ◌&&◌, ◌||◌, cond, and-false}
 use mathlib.Core.List.{List, []}
-use Prim.Native.Nat.{ℕ, ◌<◌, min}
+use Prim.Native.Nat.{ℕ, ◌<◌}
 use native.Mathlib.Omega.{arith}
 use lib.Dec.{T, eqb, ltb, eqb→eq}
 use lib.ListN.{get_or}
@@ -12,7 +12,8 @@ use borrow.Author.Tests.{eq-eqb, ne_eqb}
 use Rattle.rules.specs.Marks.{TOP, START, END}
 use Rattle.facts.specs.Memory.{PARENT, FORERUNNER, FOLLOWER, FIRST, LAST, line_at}
 use Rattle.facts.specs.Asked.{Asked, has_in, list_in, child_in}
-use Rattle.edits.specs.Least.{NONE, place}
+use Rattle.std.specs.Prelude.{None}
+use Rattle.edits.specs.Least.{place, lesser}
 use Rattle.edits.specs.Memory.{ask, field_in, same_field, unmoved}
 use Rattle.edits.specs.Positions.{fresh, fresh_after, fresh_before, torn, parent_place, neighbour_place}
 
@@ -97,7 +98,7 @@ module _ (lines facts : List (List ℕ)) (k n : ℕ) (low : n < START) (u : unmo
   none_last : fresh_before q k n END ≡ false
   none_last = no_edit (list_in (get_or lines k []) n) (list_in (get_or lines 0 []) n) _ _ list (eqb→eq _ _ fields.4)
 
-  pub no_parents : parent_place q k n ≡ NONE
+  pub no_parents : parent_place q k n ≡ None
   no_parents =
       let r = (q k).up n in
       ap (λ (b : Bool). place b n)
@@ -106,7 +107,7 @@ module _ (lines facts : List (List ℕ)) (k n : ℕ) (low : n < START) (u : unmo
   untorn : (r p s : ℕ) → fresh_after q k r p ≡ false → fresh_before q k r s ≡ false → torn q k r p s ≡ false
   untorn r p s e f = no_tear (fresh_after q k r p) (fresh_before q k r s) _ _ e f
 
-  pub no_neighbours : neighbour_place q k n ≡ NONE
+  pub no_neighbours : neighbour_place q k n ≡ None
   no_neighbours =
       let r = (q k).up n in
-      λ i. min (place (untorn r n n (none_behind r) (none_before r) i) r) (place (untorn n START END none_first none_last i) n)
+      λ i. lesser (place (untorn r n n (none_behind r) (none_before r) i) r) (place (untorn n START END none_first none_last i) n)

@@ -2,18 +2,15 @@
 -- are what is to be answered, z and w what was; o, s, u are neighbours, r is a parent, n a record. Assumes nothing.
 use mathlib.Core.Path.{◌≡◌, refl, sym, ap, ◌∙◌}
 use mathlib.Core.Bool.{Bool, true, false, not, ◌&&◌, ◌||◌, cond, and-true, and_assoc}
-use Prim.Native.Nat.{ℕ, suc, ◌+◌, ◌-◌, ◌<◌, ◌≤◌, min}
+use Prim.Native.Nat.{ℕ, suc, ◌+◌, ◌-◌, ◌<◌, ◌≤◌}
 use native.Mathlib.Omega.{arith}
 use native.Mathlib.Numerals.{add-one}
 use lib.Dec.{eqb, ltb}
-use borrow.Author.Tests.{lt-ltb, eqb-true, eqb-false, eq-eqb, ne_eqb}
-use borrow.Author.Rules.{rules}
-use Rattle.rules.specs.Marks.{TOP, is_record}
+use borrow.Author.Tests.{lt-ltb}
 use Rattle.facts.specs.Memory.{TABLES}
 use Rattle.facts.specs.Asked.{Asked}
 use Rattle.edits.specs.Branches.{first_branch, all_from, all_branches}
-use Rattle.edits.specs.Least.{place}
-use Rattle.edits.specs.Positions.{fresh, fresh_beside, claims, parent_source, two_parents, knows, unknown, keeps}
+use Rattle.edits.specs.Positions.{fresh, unknown, keeps}
 use Rattle.edits.specs.Positions.{kept_after}
 use Rattle.edits.proofs.Branches.{Left, left-start, fresh_here, fresh_on, left_end}
 
@@ -23,61 +20,8 @@ and_then A B z w e t f = rw (← e, t) f
 pub and_stop : (A B z : Bool) → z ≡ A → z ≡ false → false ≡ (A && B)
 and_stop A B z e t = rw (← e, t)
 
-pub or_then : (A B z w : Bool) → z ≡ A → z ≡ false → w ≡ B → w ≡ (A || B)
-or_then A B z w e t f = rw (← e, t) f
-
-pub or_stop : (A B z : Bool) → z ≡ A → z ≡ true → true ≡ (A || B)
-or_stop A B z e t = rw (← e, t)
-
-pub fresh_none : (o s : ℕ) (y : Bool) → y ≡ true → y ≡ eqb s 0 → false ≡ fresh o s
-fresh_none o s y t e = let z : s ≡ 0 = eqb-true s 0 (sym e ∙ t) in rw (z)
-
-pub fresh_else : (o s : ℕ) (y : Bool) → y ≡ false → y ≡ eqb s 0 → not (eqb s o) ≡ fresh o s
-fresh_else o s y t e = let z : s ≡ 0 → ⊥ = eqb-false s 0 (sym e ∙ t) in rw (lt-ltb 0 s (omega (arith, z)))
-
 pub fresh_of : (a b o s : ℕ) (z : Bool) → o ≡ a → s ≡ b → z ≡ fresh o s → z ≡ fresh a b
 fresh_of a b o s z e f g = g ∙ (λ i. fresh (e i) (f i))
-
-pub knows_record : (has : ℕ → Bool) (r n : ℕ) (z w : Bool) → z ≡ is_record n → z ≡ true → w ≡ has n → w ≡ knows has r n
-knows_record has r n z w e t f = rw (← e, t) f
-
-pub knows-mark : (has : ℕ → Bool) (r n : ℕ) (z w : Bool) → z ≡ is_record n → z ≡ false → w ≡ (eqb r TOP || has r) → w ≡ knows has r n
-knows-mark has r n z w e t f = rw (← e, t) f
-
-pub unknown-before : (A B z : Bool) → z ≡ A → z ≡ true → false ≡ (not A && not B)
-unknown-before A B z e t = rw (← e, t)
-
-pub unknown_else : (A B z w : Bool) → z ≡ A → z ≡ false → w ≡ B → not w ≡ (not A && not B)
-unknown_else A B z w e t f = rw (← e, t, f)
-
-pub place_is : (A z : Bool) (n v : ℕ) → z ≡ A → v ≡ place z n → v ≡ place A n
-place_is A z n v e f = f ∙ ap (λ (b : Bool). place b n) e
-
-pub kept_same : (A z : Bool) (s o : ℕ) → z ≡ true → s ≡ o → true ≡ (z && (eqb s o || A))
-kept_same A z s o t e = rw (t, eq-eqb s o e)
-
-pub kept_other : (A z w : Bool) (s o : ℕ) → z ≡ true → (s ≡ o → ⊥) → w ≡ A → w ≡ (z && (eqb s o || A))
-kept_other A z w s o t e f = rw (t, ne_eqb s o e) f
-
-pub ruleset ways = (
-  place_is,
-  kept_same,
-  kept_other,
-  and_then,
-  and_stop,
-  or_then,
-  or_stop,
-  fresh_none,
-  fresh_else,
-  fresh_of,
-  knows_record,
-  knows-mark,
-  unknown-before,
-  unknown_else,
-  rules,
-)
-
--- ---- applied by hand
 
 -- a neighbour b that is new beside old's a, compared with the neighbour c elsewhere
 module _ (a b c o s : ℕ) (z : Bool) (eo : o ≡ a) (es : s ≡ b) (ez : z ≡ fresh o s) where
@@ -96,27 +40,7 @@ first_differs v o t s k u z eo es ez y ek eu =
     new_differs (v 0) (v t) (v (first_branch (λ j. fresh (v 0) (v j)))) o s z eo es ez u y
     (eu ∙ ap v ek ∙ ap (λ (x : ℕ). v (first_branch (λ j. fresh x (v j)))) eo)
 
--- the lesser of two places: r if it passes the one test, n if it passes the other; r was asked for as `up`
-pub lesser-place : (test : ℕ → Bool) (other x y : Bool) (up n r a b m : ℕ) → r ≡ up → x ≡ test r → y ≡ other → a ≡ place x r
-    → b ≡ place y n → m ≡ min a b → m ≡ min (place (test up) up) (place other n)
-lesser-place test other x y up n r a b m er ex ey ea eb em =
-    em
-    ∙ (λ i. min (ea i) (eb i))
-    ∙ (λ i. min (place (ex i) r) (place (ey i) n))
-    ∙ ap (λ (u : ℕ). min (place (test u) u) (place other n)) er
-
 module _ (q : ℕ → Asked) where
-  pub claims_there : (t n r : ℕ) (h z : Bool) → h ≡ (q t).has n → h ≡ true → r ≡ (q t).up n → z ≡ fresh_beside q t r n → z ≡ claims q t n
-  claims_there t n r h z e y f g =
-      and_then ((q t).has n) (fresh_beside q t ((q t).up n) n) h z e y (g ∙ ap (λ (u : ℕ). fresh_beside q t u n) f)
-
-  pub parents_differ_lem : (t n k a b : ℕ) (z : Bool) → z ≡ claims q t n → z ≡ true → k ≡ parent_source q n → a ≡ (q t).up n
-      → b ≡ (q k).up n
-      → not (eqb a b) ≡ two_parents q t n
-  parents_differ_lem t n k a b z e y f ea eb =
-      and_then (claims q t n) (not (eqb ((q t).up n) ((q (parent_source q n)).up n))) z (not (eqb a b)) e y
-      (λ i. not (eqb (ea i) ((eb ∙ ap (λ (j : ℕ). (q j).up n) f) i)))
-
   -- ---- the loop over the branches for the kept follower
 
   module _ (r p : ℕ) where

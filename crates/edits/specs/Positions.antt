@@ -1,10 +1,10 @@
 -- Edits, clashes and kept facts of positions, read off what the tables answer: q k is asked of table k, and table 0 is old. r is a parent,
 -- p the one before, s the one after, n a record, o what old answers; 0 is the answer "none". Assumes nothing.
-use Rattle.std.specs.Prelude.{Bool, not, ◌&&◌, ◌||◌, cond, ℕ, min, eqb, ltb}
+use Rattle.std.specs.Prelude.{Bool, not, ◌&&◌, ◌||◌, cond, ℕ, eqb, ltb, Option}
 use Rattle.rules.specs.Marks.{TOP, START, END, is_record}
 use Rattle.facts.specs.Asked.{Asked}
 use Rattle.edits.specs.Branches.{first_branch, all_branches}
-use Rattle.edits.specs.Least.{place}
+use Rattle.edits.specs.Least.{place, lesser}
 
 -- "The edits are the facts of first or second that old lacks": somebody stands there, and it is not whom old has there
 abbrev pub fresh : ℕ → ℕ → Bool
@@ -65,12 +65,12 @@ module _ (q : ℕ → Asked) where
   torn k r p s = two_followers k r p || two_forerunners k r s
 
   -- what shows at record n of branch k: two parents of it
-  abbrev pub parent_place : ℕ → ℕ → ℕ
+  abbrev pub parent_place : ℕ → ℕ → Option ℕ
   parent_place k n = place (two_parents k n) n
 
   -- a list torn beside it, or its own list torn at the ends
-  abbrev pub neighbour_place : ℕ → ℕ → ℕ
-  neighbour_place k n = min (place (torn k ((q k).up n) n n) ((q k).up n)) (place (torn k n START END) n)
+  abbrev pub neighbour_place : ℕ → ℕ → Option ℕ
+  neighbour_place k n = lesser (place (torn k ((q k).up n) n n) ((q k).up n)) (place (torn k n START END) n)
 
   -- ---- kept facts
 

@@ -1,184 +1,76 @@
 // Where two edits of positions clash: 22 and 23, as they show at one record of one branch. r is a parent, p the one before, s the one
-// after, n a record, o what old answers, t a table.
-ghost use Rattle.std.specs.Prelude.{◌≡◌, ◌<◌};
-ghost use Rattle.facts.specs.Memory.{TABLES as tables_of_memory};
+// after, n a record, t a table.
+ghost use Rattle.std.specs.Prelude.{◌≡◌, ◌&&◌, ℕ, Bool, not, eqb};
+ghost use Rattle.facts.specs.Inputs.{lines_of, facts_of};
 ghost use Rattle.edits.specs.Branches.{first_branch};
+ghost use Rattle.edits.specs.Least.{numbered};
 ghost use Rattle.edits.specs.Memory.{ask};
 ghost use Rattle.edits.specs.Positions.{fresh, parent_source};
 ghost use Rattle.edits.specs.Positions.{two_followers, two_forerunners, two_parents, torn, parent_place, neighbour_place};
 
-use crate::{claims, follower_in, forerunner_in, fresh, parent_in, place, smaller};
-use facts::{FACTS, NUMBERS, TABLES};
+use crate::{claims, first_branch, follower_in, forerunner_in, fresh, lesser, parent_in, place};
+use facts::inputs::{Inputs, Side};
 use rules::record::Record;
 
-// ---- the first branch with an edit there; 0, which is old, if there is none
-
-fn after_source(
-    lines: &[[u16; NUMBERS]; TABLES],
-    facts: &[[u32; FACTS]; TABLES],
-    r: Record,
-    p: Record,
-    o: Record,
-) -> usize
-    ensures value { result ≡ first_branch (λ k. fresh o.number ((ask lines.now facts.now k).after r.number p.number)) }
-    ensures upper_bound { result < tables_of_memory }
+// Branch `t` has an edit of a neighbour, and it is not the first branch's.
+fn two_neighbours<F: Fn(Side) -> Record>(neighbour: F, t: Side) -> bool
+    requires { F.IsAlwaysCallable neighbour }
+    ensures { (v : ℕ → ℕ) → ((k : _) (y : _) → F.post neighbour k y → y.number ≡ v k.index)
+        → result ≡ (fresh (v 0) (v t.index) && not (eqb (v t.index) (v (first_branch (λ k. fresh (v 0) (v k)))))) }
 {
-    let mut t: usize = 1;
-    while t < TABLES {
-        let s = follower_in(lines, facts, t, r, p);
-        if fresh(o, s) {
-            return t;
-        }
-        t += 1;
+    let o = neighbour(Side::OLD);
+    let s = neighbour(t);
+    if !fresh(o, s) {
+        return false;
     }
-    0
-}
-
-fn before_source(
-    lines: &[[u16; NUMBERS]; TABLES],
-    facts: &[[u32; FACTS]; TABLES],
-    r: Record,
-    s: Record,
-    o: Record,
-) -> usize
-    ensures value { result ≡ first_branch (λ k. fresh o.number ((ask lines.now facts.now k).before r.number s.number)) }
-    ensures upper_bound { result < tables_of_memory }
-{
-    let mut t: usize = 1;
-    while t < TABLES {
-        let p = forerunner_in(lines, facts, t, r, s);
-        if fresh(o, p) {
-            return t;
-        }
-        t += 1;
-    }
-    0
-}
-
-fn parent_source(
-    lines: &[[u16; NUMBERS]; TABLES],
-    facts: &[[u32; FACTS]; TABLES],
-    n: Record,
-) -> usize
-    ensures value { result ≡ parent_source (ask lines.now facts.now) n.number }
-    ensures upper_bound { result < tables_of_memory }
-{
-    let mut t: usize = 1;
-    while t < TABLES {
-        if claims(lines, facts, t, n) {
-            return t;
-        }
-        t += 1;
-    }
-    0
+    let first = first_branch(|k| fresh(o, neighbour(k)));
+    s != neighbour(first)
 }
 
 // ---- clashes: an edit of table `t` that is not the first branch's
 
-fn two_followers(
-    lines: &[[u16; NUMBERS]; TABLES],
-    facts: &[[u32; FACTS]; TABLES],
-    t: usize,
-    r: Record,
-    p: Record,
-) -> bool
-    requires { t < tables_of_memory }
-    ensures { result ≡ two_followers (ask lines.now facts.now) t r.number p.number }
+fn two_followers(inputs: &Inputs, t: Side, r: Record, p: Record) -> bool
+    ensures { result ≡ two_followers (ask (lines_of inputs.now) (facts_of inputs.now)) t.index r.number p.number }
 {
-    let o = follower_in(lines, facts, 0, r, p);
-    let s = follower_in(lines, facts, t, r, p);
-    if fresh(o, s) {
-        let k = after_source(lines, facts, r, p, o);
-        let u = follower_in(lines, facts, k, r, p);
-        return s.number != u.number;
-    }
-    false
+    two_neighbours(|k| follower_in(inputs, k, r, p), t)
 }
 
-fn two_forerunners(
-    lines: &[[u16; NUMBERS]; TABLES],
-    facts: &[[u32; FACTS]; TABLES],
-    t: usize,
-    r: Record,
-    s: Record,
-) -> bool
-    requires { t < tables_of_memory }
-    ensures { result ≡ two_forerunners (ask lines.now facts.now) t r.number s.number }
+fn two_forerunners(inputs: &Inputs, t: Side, r: Record, s: Record) -> bool
+    ensures { result ≡ two_forerunners (ask (lines_of inputs.now) (facts_of inputs.now)) t.index r.number s.number }
 {
-    let o = forerunner_in(lines, facts, 0, r, s);
-    let p = forerunner_in(lines, facts, t, r, s);
-    if fresh(o, p) {
-        let k = before_source(lines, facts, r, s, o);
-        let u = forerunner_in(lines, facts, k, r, s);
-        return p.number != u.number;
-    }
-    false
+    two_neighbours(|k| forerunner_in(inputs, k, r, s), t)
 }
 
-fn two_parents(
-    lines: &[[u16; NUMBERS]; TABLES],
-    facts: &[[u32; FACTS]; TABLES],
-    t: usize,
-    n: Record,
-) -> bool
-    requires { t < tables_of_memory }
-    ensures { result ≡ two_parents (ask lines.now facts.now) t n.number }
+fn two_parents(inputs: &Inputs, t: Side, n: Record) -> bool
+    ensures { result ≡ two_parents (ask (lines_of inputs.now) (facts_of inputs.now)) t.index n.number }
 {
-    if claims(lines, facts, t, n) {
-        let k = parent_source(lines, facts, n);
-        let a = parent_in(lines, facts, t, n);
-        let b = parent_in(lines, facts, k, n);
-        return a.number != b.number;
+    if !claims(inputs, t, n) {
+        return false;
     }
-    false
+    let first = first_branch(|k| claims(inputs, k, n));
+    parent_in(inputs, t, n) != parent_in(inputs, first, n)
 }
 
 // The list of `r` is torn behind `p` or before `s`.
-fn torn(
-    lines: &[[u16; NUMBERS]; TABLES],
-    facts: &[[u32; FACTS]; TABLES],
-    t: usize,
-    r: Record,
-    p: Record,
-    s: Record,
-) -> bool
-    requires { t < tables_of_memory }
-    ensures { result ≡ torn (ask lines.now facts.now) t r.number p.number s.number }
+fn torn(inputs: &Inputs, t: Side, r: Record, p: Record, s: Record) -> bool
+    ensures { result ≡ torn (ask (lines_of inputs.now) (facts_of inputs.now)) t.index r.number p.number s.number }
 {
-    if two_followers(lines, facts, t, r, p) {
-        return true;
-    }
-    two_forerunners(lines, facts, t, r, s)
+    two_followers(inputs, t, r, p) || two_forerunners(inputs, t, r, s)
 }
 
 // The record, if two edits give it different parents.
-pub fn parent_place(
-    lines: &[[u16; NUMBERS]; TABLES],
-    facts: &[[u32; FACTS]; TABLES],
-    t: usize,
-    n: Record,
-) -> u32
-    requires { t < tables_of_memory }
-    ensures { result ≡ parent_place (ask lines.now facts.now) t n.number }
+pub fn parent_place(inputs: &Inputs, t: Side, n: Record) -> Option<Record>
+    ensures { numbered result ≡ parent_place (ask (lines_of inputs.now) (facts_of inputs.now)) t.index n.number }
 {
-    let test = two_parents(lines, facts, t, n);
-    place(test, n)
+    place(two_parents(inputs, t, n), n)
 }
 
 // The least parent whose list is torn beside the record, or, of the record's own list, at its ends.
-pub fn neighbour_place(
-    lines: &[[u16; NUMBERS]; TABLES],
-    facts: &[[u32; FACTS]; TABLES],
-    t: usize,
-    n: Record,
-) -> u32
-    requires { t < tables_of_memory }
-    ensures { result ≡ neighbour_place (ask lines.now facts.now) t n.number }
+pub fn neighbour_place(inputs: &Inputs, t: Side, n: Record) -> Option<Record>
+    ensures { numbered result ≡ neighbour_place (ask (lines_of inputs.now) (facts_of inputs.now)) t.index n.number }
 {
-    let r = parent_in(lines, facts, t, n);
-    let beside = torn(lines, facts, t, r, n, n);
-    let within = torn(lines, facts, t, n, Record::start(), Record::end());
-    let a = place(beside, r);
-    let b = place(within, n);
-    smaller(a, b)
+    let r = parent_in(inputs, t, n);
+    let beside = torn(inputs, t, r, n, n);
+    let within = torn(inputs, t, n, Record::START, Record::END);
+    lesser(place(beside, r), place(within, n))
 }

@@ -43,7 +43,7 @@ module _ (fs : List ℕ) (l n r p start long : ℕ) where
   abbrev pub fresh : List ℕ
   fresh = n ∷ r ∷ p ∷ END ∷ END ∷ START ∷ start ∷ long ∷ []
 
-  laid-sets : laid fs l n r p start long ≡ sets fs (l * WIDTH) fresh
+  pub laid-sets : laid fs l n r p start long ≡ sets fs (l * WIDTH) fresh
   laid-sets = simp unary_clauses
 
   pub laid-length : length (laid fs l n r p start long) ≡ length fs

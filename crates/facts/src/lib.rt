@@ -1,17 +1,16 @@
-// One table in memory, in two flat arrays that are lent: `lines` gives a number its line, `facts` gives a line its eight fields.
-// Line 0 is the top's, so the top is read like a record. Each question takes a fixed number of loads, and one line more a fixed number
-// of loads and stores. n is a record, r a parent, p the one before, s the one after, l a line, k a field. The
-// arrays hold bare numbers; outside them a number has its own type.
+// One table in memory: `lines` gives a number its line, and a line has eight facts. Line 0 is the top's, so the top is read like a record.
+// Each question takes a fixed number of loads, and one line more a fixed number of loads and stores. n is a record, r a parent, p the one
+// before, s the one after, l a line.
 #![tactic(auto)]
 
+pub mod inputs;
+
 ghost use Rattle.std.specs.Prelude.{◌≡◌, [], ◌∷◌, ◌+◌, ◌*◌, ◌<◌, length};
-ghost use Rattle.facts.specs.Memory.{NUMBERS as numbers_of_memory, ROOM as room_of_memory, WIDTH as width_of_memory};
-ghost use Rattle.facts.specs.Memory.{NUMBER as number_of_memory, PARENT as parent_of_memory, FORERUNNER as forerunner_of_memory};
-ghost use Rattle.facts.specs.Memory.{FOLLOWER as follower_of_memory, FIRST as first_of_memory, LAST as last_of_memory};
-ghost use Rattle.facts.specs.Memory.{PLACE as place_of_memory, LENGTH as length_of_memory};
+ghost use Rattle.facts.specs.Memory.{NUMBERS as numbers_of_memory, ROOM as room_of_memory, WIDTH};
 ghost use Rattle.facts.specs.Memory.{TABLES as tables_of_memory, SPAN as span_of_memory, TEXTS as texts_of_memory};
-ghost use Rattle.facts.specs.Memory.{line_at, field_on, field, who, way, laid, put_field, add_line, add_facts, opened};
+ghost use Rattle.facts.specs.Memory.{LAST, line_at, field, who, way, laid, put_field, add_line, add_facts, opened, no_lines, no_facts};
 ghost use Rattle.facts.specs.Asked.{has_in, list_in, child_in, asked};
+ghost use Rattle.facts.specs.Table.{lines_in, facts_in, FactsAt};
 
 use rules::record::Record;
 
@@ -23,12 +22,6 @@ pub const NUMBERS: usize = 65536;
 // there is room for so many lines
 pub const ROOM: usize = 1025;
 
-// a line has so many fields
-pub const WIDTH: usize = 8;
-
-// so many fields in all
-pub const FACTS: usize = 8200;
-
 // so many tables lie side by side: old, first and second
 pub const TABLES: usize = 3;
 
@@ -37,29 +30,11 @@ pub const SPAN: u32 = 65536;
 
 pub const TEXTS: u32 = 16;
 
-// the fields of a line; the last two say where its content lies, and how long it is
-pub const NUMBER: usize = 0;
-
-pub const PARENT: usize = 1;
-
-pub const FORERUNNER: usize = 2;
-
-pub const FOLLOWER: usize = 3;
-
-pub const FIRST: usize = 4;
-
-pub const LAST: usize = 5;
-
-pub const PLACE: usize = 6;
-
-pub const LENGTH: usize = 7;
-
-// These three tie the constants to the definitions of the same names.
-pub fn shape() -> [usize; 5]
-    ensures { result ≡ numbers_of_memory ∷ room_of_memory ∷ width_of_memory ∷ (room_of_memory * width_of_memory)
-        ∷ tables_of_memory ∷ [] }
+// These two tie the constants to the definitions of the same names.
+pub fn shape() -> [usize; 3]
+    ensures { result ≡ numbers_of_memory ∷ room_of_memory ∷ tables_of_memory ∷ [] }
 {
-    [NUMBERS, ROOM, WIDTH, FACTS, TABLES]
+    [NUMBERS, ROOM, TABLES]
 }
 
 pub fn spans() -> [u32; 2]
@@ -68,245 +43,213 @@ pub fn spans() -> [u32; 2]
     [SPAN, TEXTS]
 }
 
-pub fn fields() -> [usize; 8]
-    ensures { result ≡ number_of_memory ∷ parent_of_memory ∷ forerunner_of_memory ∷ follower_of_memory ∷ first_of_memory
-        ∷ last_of_memory ∷ place_of_memory ∷ length_of_memory ∷ [] }
-{
-    [
-        NUMBER, PARENT, FORERUNNER, FOLLOWER, FIRST, LAST, PLACE, LENGTH,
-    ]
+// What a line tells of its record: where it stands, where its list begins and ends, and where its content lies and how long it is. A place
+// is one number, in which the definitions put origin, text and start together (origin_of, text_of, start_of).
+#[derive(Clone, Copy)]
+pub struct Facts {
+    pub number: Record,
+    pub parent: Record,
+    pub forerunner: Record,
+    pub follower: Record,
+    pub first: Record,
+    pub last: Record,
+    pub place: u32,
+    pub length: u32,
 }
 
-// A number of 16 bits as a place, with the bound that its type says.
-pub fn wide(x: u16) -> usize
-    ensures { (result ≡ x) × (result < 65536) }
-{
-    x as usize
+impl Facts {
+    const ZEROS: Facts = Facts {
+        number: Record::TOP,
+        parent: Record::TOP,
+        forerunner: Record::NOBODY,
+        follower: Record::NOBODY,
+        first: Record::NOBODY,
+        last: Record::NOBODY,
+        place: 0,
+        length: 0,
+    };
 }
 
-// What the type of a lent array says of its length. Neither does anything when it runs.
-pub fn column(lines: &[u16; NUMBERS])
-    ensures { length lines.now ≡ numbers_of_memory }
-{
-    let s = &lines[..];
-}
-
-pub fn width(facts: &[u32; FACTS])
-    ensures { length facts.now ≡ room_of_memory * width_of_memory }
-{
-    let s = &facts[..];
+#[derive(Drop)]
+pub struct Table {
+    pub lines: [u16; NUMBERS],
+    pub facts: [Facts; ROOM],
 }
 
 // ---- what is read
 
-// the line of a number; 0 for the top, and for a number that is absent
-pub fn line_of(lines: &[u16; NUMBERS], n: Record) -> usize
-    ensures value { result ≡ line_at lines.now n.number }
-    ensures upper_bound { result < room_of_memory }
-{
-    column(lines);
-    let i = n.number as usize;
-    if i < NUMBERS {
-        let l = wide(lines[i]);
-        if l < ROOM {
-            return l;
+impl Table {
+    // All zeros: no record, and not open yet.
+    pub fn blank() -> Table
+        ensures lines { lines_in result ≡ no_lines }
+        ensures facts { facts_in result ≡ no_facts }
+    {
+        Table {
+            lines: [0; NUMBERS],
+            facts: [Facts::ZEROS; ROOM],
         }
     }
-    0
-}
 
-// a field of a record's line
-pub fn field(lines: &[u16; NUMBERS], facts: &[u32; FACTS], n: Record, k: usize) -> u32
-    requires { k < width_of_memory }
-    ensures { result ≡ field lines.now facts.now n.number k }
-{
-    let l = line_of(lines, n);
-    facts[l * WIDTH + k]
-}
-
-// the record, or the mark, in a field of a record's line
-pub fn record_in(lines: &[u16; NUMBERS], facts: &[u32; FACTS], n: Record, k: usize) -> Record
-    requires { k < width_of_memory }
-    ensures { result.number ≡ field lines.now facts.now n.number k }
-{
-    Record::new(field(lines, facts, n, k))
-}
-
-// a field of a line
-pub fn field_on(facts: &[u32; FACTS], l: usize, k: usize) -> u32
-    requires { (l < room_of_memory) × (k < width_of_memory) }
-    ensures { result ≡ field_on facts.now l k }
-{
-    facts[l * WIDTH + k]
-}
-
-// the number on a line
-pub fn number_on(facts: &[u32; FACTS], l: usize) -> Record
-    requires { l < room_of_memory }
-    ensures { result.number ≡ field_on facts.now l number_of_memory }
-{
-    Record::new(field_on(facts, l, NUMBER))
-}
-
-// the parent of the record on a line
-pub fn parent_on(facts: &[u32; FACTS], l: usize) -> Record
-    requires { l < room_of_memory }
-    ensures { result.number ≡ field_on facts.now l parent_of_memory }
-{
-    Record::new(field_on(facts, l, PARENT))
-}
-
-// ---- the questions
-
-// whether the record is there
-pub fn has(lines: &[u16; NUMBERS], n: Record) -> bool
-    ensures { result ≡ has_in lines.now n.number }
-{
-    let l = line_of(lines, n);
-    0 < l
-}
-
-// a record has a list, and so has the top
-pub fn list(lines: &[u16; NUMBERS], r: Record) -> bool
-    ensures { result ≡ list_in lines.now r.number }
-{
-    if r.is_top() {
-        return true;
-    }
-    has(lines, r)
-}
-
-// whether `n` is a child of `r`
-pub fn child(lines: &[u16; NUMBERS], facts: &[u32; FACTS], r: Record, n: Record) -> bool
-    ensures { result ≡ child_in lines.now facts.now r.number n.number }
-{
-    if has(lines, n) {
-        return field(lines, facts, n, PARENT) == r.number;
-    }
-    false
-}
-
-pub fn parent(lines: &[u16; NUMBERS], facts: &[u32; FACTS], n: Record) -> Record
-    ensures { result.number ≡ (asked lines.now facts.now).up n.number }
-{
-    record_in(lines, facts, n, PARENT)
-}
-
-// who follows `p` under `r`; nobody, if none does
-pub fn follower(lines: &[u16; NUMBERS], facts: &[u32; FACTS], r: Record, p: Record) -> Record
-    ensures { result.number ≡ (asked lines.now facts.now).after r.number p.number }
-{
-    if p.is_start() {
-        if list(lines, r) {
-            return record_in(lines, facts, r, FIRST);
+    // The line of a number; 0 for the top, and for a number that is absent. No Option: what is asked of an absent number is asked of the
+    // top
+    // (line_at).
+    pub fn line_of(&self, n: Record) -> usize
+        ensures value { result ≡ line_at (lines_in self.now) n.number }
+        ensures upper_bound { result < room_of_memory }
+    {
+        let i = n.number as usize;
+        if i < NUMBERS {
+            let l = self.lines[i] as usize;
+            if l < ROOM {
+                return l;
+            }
         }
-        return Record::NOBODY;
+        0
     }
-    if child(lines, facts, r, p) {
-        return record_in(lines, facts, p, FOLLOWER);
-    }
-    Record::NOBODY
-}
 
-// who stands before `s` under `r`; nobody, if none does
-pub fn forerunner(lines: &[u16; NUMBERS], facts: &[u32; FACTS], r: Record, s: Record) -> Record
-    ensures { result.number ≡ (asked lines.now facts.now).before r.number s.number }
-{
-    if s.is_end() {
-        if list(lines, r) {
-            return record_in(lines, facts, r, LAST);
+    // the facts of a line
+    pub fn facts_on(&self, l: usize) -> &Facts
+        requires { l < room_of_memory }
+        ensures { FactsAt (facts_in self.now) l result.now }
+    {
+        &self.facts[l]
+    }
+
+    // the facts of a record's line
+    pub fn facts_of(&self, n: Record) -> &Facts
+        ensures { FactsAt (facts_in self.now) (line_at (lines_in self.now) n.number) result.now }
+    {
+        self.facts_on(self.line_of(n))
+    }
+
+    // ---- the questions
+
+    // whether the record is there
+    pub fn has(&self, n: Record) -> bool
+        ensures { result ≡ has_in (lines_in self.now) n.number }
+    {
+        0 < self.line_of(n)
+    }
+
+    // a record has a list, and so has the top
+    pub fn list(&self, r: Record) -> bool
+        ensures { result ≡ list_in (lines_in self.now) r.number }
+    {
+        r.is_top() || self.has(r)
+    }
+
+    // whether `n` is a child of `r`
+    pub fn child(&self, r: Record, n: Record) -> bool
+        ensures { result ≡ child_in (lines_in self.now) (facts_in self.now) r.number n.number }
+    {
+        self.has(n) && self.parent(n) == r
+    }
+
+    pub fn parent(&self, n: Record) -> Record
+        ensures { result.number ≡ (asked (lines_in self.now) (facts_in self.now)).up n.number }
+    {
+        self.facts_of(n).parent
+    }
+
+    // who follows `p` under `r`; nobody, if none does
+    pub fn follower(&self, r: Record, p: Record) -> Record
+        ensures { result.number ≡ (asked (lines_in self.now) (facts_in self.now)).after r.number p.number }
+    {
+        if p.is_start() {
+            if self.list(r) {
+                return self.facts_of(r).first;
+            }
+            return Record::NOBODY;
         }
-        return Record::NOBODY;
+        if self.child(r, p) {
+            return self.facts_of(p).follower;
+        }
+        Record::NOBODY
     }
-    if child(lines, facts, r, s) {
-        return record_in(lines, facts, s, FORERUNNER);
+
+    // who stands before `s` under `r`; nobody, if none does
+    pub fn forerunner(&self, r: Record, s: Record) -> Record
+        ensures { result.number ≡ (asked (lines_in self.now) (facts_in self.now)).before r.number s.number }
+    {
+        if s.is_end() {
+            if self.list(r) {
+                return self.facts_of(r).last;
+            }
+            return Record::NOBODY;
+        }
+        if self.child(r, s) {
+            return self.facts_of(s).forerunner;
+        }
+        Record::NOBODY
     }
-    Record::NOBODY
-}
 
-// ---- one line more
+    // ---- one line more
 
-// The empty table: the top has no child. The array is all zeros before.
-pub fn open(facts: &mut [u32; FACTS])
-    ensures { facts.new ≡ opened facts.old }
-{
-    facts[FIRST] = Record::END.number;
-    facts[LAST] = Record::START.number;
-}
-
-// the fields of a new line: nothing follows it, and it has no child
-fn lay(facts: &mut [u32; FACTS], l: usize, n: Record, r: Record, p: Record, start: u32, long: u32)
-    requires { l < room_of_memory }
-    ensures { facts.new ≡ laid facts.old l n.number r.number p.number start long }
-{
-    facts[l * WIDTH + NUMBER] = n.number;
-    facts[l * WIDTH + PARENT] = r.number;
-    facts[l * WIDTH + FORERUNNER] = p.number;
-    facts[l * WIDTH + FOLLOWER] = Record::END.number;
-    facts[l * WIDTH + FIRST] = Record::END.number;
-    facts[l * WIDTH + LAST] = Record::START.number;
-    facts[l * WIDTH + PLACE] = start;
-    facts[l * WIDTH + LENGTH] = long;
-}
-
-// START's follower is a field of the parent, a record's its own
-fn who(r: Record, p: Record) -> Record
-    ensures { result.number ≡ who r.number p.number }
-{
-    if p.is_start() {
-        return r;
+    // The empty table: the top has no child. It is blank before.
+    pub fn open(&mut self)
+        ensures lines_same { lines_in self.new ≡ lines_in self.old }
+        ensures facts_after { facts_in self.new ≡ opened (facts_in self.old) }
+    {
+        self.facts[0].first = Record::END;
+        self.facts[0].last = Record::START;
     }
-    p
-}
 
-fn way(p: Record) -> usize
-    ensures value { result ≡ way p.number }
-    ensures upper_bound { result < width_of_memory }
-{
-    if p.is_start() {
-        return FIRST;
+    // the facts of a new line: nothing follows it, and it has no child
+    fn lay(&mut self, l: usize, n: Record, r: Record, p: Record, start: u32, long: u32)
+        requires { l < room_of_memory }
+        ensures lines_same { lines_in self.new ≡ lines_in self.old }
+        ensures facts_after { facts_in self.new ≡ laid (facts_in self.old) l n.number r.number p.number start long }
+        ensures all_facts { length (facts_in self.old) ≡ room_of_memory * WIDTH }
+    {
+        self.facts[l] = Facts {
+            number: n,
+            parent: r,
+            forerunner: p,
+            follower: Record::END,
+            first: Record::END,
+            last: Record::START,
+            place: start,
+            length: long,
+        };
     }
-    FOLLOWER
-}
 
-// stores the number `v` in a field of a record's line
-fn put(lines: &[u16; NUMBERS], facts: &mut [u32; FACTS], n: Record, k: usize, v: Record)
-    requires { k < width_of_memory }
-    ensures { facts.new ≡ put_field lines.now facts.old n.number k v.number }
-{
-    let l = line_of(lines, n);
-    facts[l * WIDTH + k] = v.number;
-}
+    // `n` follows `p` under `r`: START's follower is told with the parent, a record's with the record
+    fn follow(&mut self, n: Record, r: Record, p: Record)
+        ensures lines_same { lines_in self.new ≡ lines_in self.old }
+        ensures facts_after { facts_in self.new ≡ put_field (lines_in self.old) (facts_in self.old)
+            (who r.number p.number) (way p.number) n.number }
+    {
+        if p.is_start() {
+            let l = self.line_of(r);
+            self.facts[l].first = n;
+        } else {
+            let l = self.line_of(p);
+            self.facts[l].follower = n;
+        }
+    }
 
-// `n` follows `p` under `r`, and is the last child of `r`
-fn hang(lines: &[u16; NUMBERS], facts: &mut [u32; FACTS], n: Record, r: Record, p: Record)
-    ensures { facts.new ≡ put_field lines.now
-        (put_field lines.now facts.old (who r.number p.number) (way p.number) n.number)
-        r.number last_of_memory n.number }
-{
-    let w = who(r, p);
-    let k = way(p);
-    put(lines, facts, w, k, n);
-    put(lines, facts, r, LAST, n);
-}
+    // `n` is the last child of `r`
+    fn end_with(&mut self, n: Record, r: Record)
+        ensures lines_same { lines_in self.new ≡ lines_in self.old }
+        ensures facts_after { facts_in self.new ≡ put_field (lines_in self.old) (facts_in self.old) r.number LAST n.number }
+    {
+        let l = self.line_of(r);
+        self.facts[l].last = n;
+    }
 
-// Record `n` on line `l`: the last child of `r` now, its content of `long` bytes at `start` in its text.
-pub fn add_line(
-    lines: &mut [u16; NUMBERS],
-    facts: &mut [u32; FACTS],
-    l: usize,
-    n: Record,
-    r: Record,
-    start: u32,
-    long: u32,
-)
-    requires { (l < room_of_memory) × (n.number < numbers_of_memory) }
-    ensures lines_after { lines.new ≡ add_line lines.old l n.number }
-    ensures facts_after { facts.new ≡ add_facts (add_line lines.old l n.number) facts.old l n.number r.number
-        (field lines.old facts.old r.number last_of_memory) start long }
-{
-    let p = record_in(lines, facts, r, LAST);
-    lines[n.number as usize] = l as u16;
-    lay(facts, l, n, r, p, start, long);
-    hang(lines, facts, n, r, p);
+    // Record `n` on line `l`: the last child of `r` now, its content of `long` bytes at `start` in its text.
+    pub fn add_line(&mut self, l: usize, n: Record, r: Record, start: u32, long: u32)
+        requires { (l < room_of_memory) × (n.number < numbers_of_memory) }
+        ensures lines_after { lines_in self.new ≡ add_line (lines_in self.old) l n.number }
+        ensures facts_after { facts_in self.new ≡ add_facts (add_line (lines_in self.old) l n.number) (facts_in self.old)
+            l n.number r.number (field (lines_in self.old) (facts_in self.old) r.number LAST) start long }
+        ensures all_lines { length (lines_in self.old) ≡ numbers_of_memory }
+        ensures all_facts { length (facts_in self.old) ≡ room_of_memory * WIDTH }
+    {
+        let p = self.facts_of(r).last;
+        self.lines[n.number as usize] = l as u16;
+        self.lay(l, n, r, p, start, long);
+        self.follow(n, r, p);
+        self.end_with(n, r);
+    }
 }

@@ -8,14 +8,14 @@ use native.Mathlib.Omega.{arith}
 use native.Mathlib.Decide.{le_ind}
 use native.Mathlib.Numerals.{add-one}
 use lib.ListN.{length, length-append}
-use borrow.Author.Rules.{rules}
 use Rattle.rules.specs.Lists.{flat}
 use Rattle.rules.specs.Written.{over}
 use Rattle.rules.specs.Ledger.{Entry, entry_line, ledger}
-use Rattle.facts.specs.Memory.{ROOM}
+use Rattle.facts.specs.Table.{FactsAt}
+use Rattle.facts.specs.declared.Facts.{Facts}
 use Rattle.bytes_out.specs.Put.{Put}
-use Rattle.bytes_out.proofs.Puts.{put_none, put_then, put-over}
-use Rattle.ledger.specs.Entries.{entry_on, entries_to, total_of, LedgerReady}
+use Rattle.bytes_out.proofs.Puts.{put_then, put-over}
+use Rattle.ledger.specs.Entries.{entry_of, entry_on, entries_to, total_of, LedgerReady}
 use Rattle.ledger.specs.Sums.{total_length}
 use Rattle.ledger.proofs.Lines.{total_length_lem}
 
@@ -49,13 +49,9 @@ module _ (fs : List ℕ) where
     -- the entries of these lines lie from byte 0 on
     pub record Going (o : List ℕ) (at l : ℕ) : Type 0 where
       pub ready : LedgerReady fs count bytes (length o₀)
-      pub low : l ≤ count
       pub put : Put o₀ o 0 at (written_to l)
 
-    pub going_start : LedgerReady fs count bytes (length o₀) → Going o₀ 0 0
-    going_start w = record { ready = w; low = omega arith; put = put_none o₀ 0 }
-
-    module _ (o : List ℕ) (at l : ℕ) (g : Going o at l) where
+    module _ {o : List ℕ} {at l : ℕ} (g : Going o at l) where
       ledger_is : written_to count ++ total_of count bytes ≡ ledger (entries_to fs count)
       ledger_is = λ i. written_to count ++ total_of (sym (entries-count count) i) (g.ready.total i)
 
@@ -71,39 +67,35 @@ module _ (fs : List ℕ) where
 
       -- ---- one line more
 
-      module _ (h : l < count) where
-        pub going_line : l + 1 < ROOM
-        going_line = omega (arith, g.ready.few)
+      module _ (h : l < count) {f : Facts} (told : FactsAt fs (l + 1) f) where
+        entry_is : entry_on fs (l + 1) ≡ entry_of f
+        entry_is = rw (← told.number, ← told.place, ← told.length)
 
-        pub going_room : at + length (entry_line (entry_on fs (l + 1))) ≤ length o
-        going_room = rw add-one (omega (arith, g.put.place, g.put.long, next-length l, further (suc l) count h, room))
+        pub going_room : at + length (entry_line (entry_of f)) ≤ length o
+        going_room =
+            let e : length (entry_line (entry_of f)) ≡ length (entry_line (entry_on fs (suc l))) =
+            ap (λ (x : Entry). length (entry_line x)) (sym entry_is) ∙ ap (λ (k : ℕ). length (entry_line (entry_on fs k))) (add-one l) in
+            omega (arith, e, g.put.place, g.put.long, next-length l, further (suc l) count h, room)
 
-        pub going_on : (o' : List ℕ) (at' : ℕ) → Put o o' at at' (entry_line (entry_on fs (l + 1))) → Going o' at' (l + 1)
-        going_on o' at' p = record {
+        pub going_on : {o' : List ℕ} {at' : ℕ} → Put o o' at at' (entry_line (entry_of f)) → Going o' at' (l + 1)
+        going_on {o'} {at'} p = record {
           ready = g.ready;
-          low = omega arith;
-          put = subst (Put o₀ o' 0 at') (written_next l) (put_then g.put p);
+          put =
+              subst (Put o₀ o' 0 at') (ap (λ (e : Entry). written_to l ++ entry_line e) (sym entry_is) ∙ written_next l)
+              (put_then g.put p);
         }
 
       -- ---- the last line
 
-      pub records_low : count < 4294967296
-      records_low = omega (arith, g.ready.few)
-
-      pub bytes_low : bytes < 4294967296
-      bytes_low = omega (arith, g.ready.short)
-
-      module _ (h : count ≤ l) where
+      module _ (e : l ≡ count) where
         all : written_to l ≡ written_to count
-        all = let e : l ≡ count = omega (arith, g.low) in ap written_to e
+        all = ap written_to e
 
         pub last-room : at + total_length count bytes ≤ length o
         last-room = omega (arith, g.put.place, g.put.long, ap length all, room)
 
-        pub going_end : (o' : List ℕ) (at' : ℕ) → Put o o' at at' (total_of count bytes) → o' ≡ over (ledger (entries_to fs count)) o₀
-        going_end o' at' p =
-            let e : written_to l ++ total_of count bytes ≡ ledger (entries_to fs count) =
+        pub going_end : {o' : List ℕ} {at' : ℕ} → Put o o' at at' (total_of count bytes) → o' ≡ over (ledger (entries_to fs count)) o₀
+        going_end {o'} {at'} p =
+            let is : written_to l ++ total_of count bytes ≡ ledger (entries_to fs count) =
             ap (λ (s : List ℕ). s ++ total_of count bytes) all ∙ ledger_is in
-            put-over (subst (Put o₀ o' 0 at') e (put_then g.put p)) g.ready.fits
-
-pub ruleset goings = (going_start, going_line, going_room, going_on, records_low, bytes_low, last-room, going_end, rules)
+            put-over (subst (Put o₀ o' 0 at') is (put_then g.put p)) g.ready.fits

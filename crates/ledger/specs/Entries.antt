@@ -1,6 +1,6 @@
 -- The ledger of a table in memory: where its lines come from, by the table's records and by the lines of memory, and what writing it asks.
 -- ls and fs are the two arrays, n is a record, l a line, t is the table's rows. Assumes nothing.
-use Rattle.std.specs.Prelude.{◌≡◌, List, [], ◌∷◌, ◌++◌, map, ℕ, zero, suc, ◌≤◌, length}
+use Rattle.std.specs.Prelude.{◌≡◌, List, [], ◌∷◌, ◌++◌, map, ℕ, zero, suc, ◌+◌, ◌<◌, ◌≤◌, length, get_or}
 use Rattle.rules.specs.Limits.{LINES, BYTES}
 use Rattle.rules.specs.Lists.{sum}
 use Rattle.rules.specs.Quoted.{bytes as bytes_of}
@@ -11,6 +11,13 @@ use Rattle.rules.specs.Tree.{rows, tree_of}
 use Rattle.rules.specs.Written.{digits}
 use Rattle.rules.specs.Ledger.{Entry, ledger}
 use Rattle.facts.specs.Memory.{NUMBER, PLACE, LENGTH, origin_of, field_on, field}
+use Rattle.facts.specs.Table.{FactsAt}
+use Rattle.facts.specs.declared.Facts.{Facts}
+
+-- what the lines of so many records tell, in turn; `none` stands for what is read past the last, and may be anything
+pub record Told (fs : List ℕ) (count : ℕ) (lines : List Facts) : Type 0 where
+  pub many : length lines ≡ count
+  pub each : (l : ℕ) (none : Facts) → l < count → FactsAt fs (l + 1) (get_or lines l none)
 
 -- the entry of a record: its place names the origin of its content
 abbrev pub entry_at : List ℕ → List ℕ → ℕ → Entry
@@ -19,6 +26,10 @@ entry_at ls fs n = record { number = n; origin = origin_of (field ls fs n PLACE)
 -- "One line for each merged record in written order"
 abbrev pub entries_in : List ℕ → List ℕ → List Row → List Entry
 entries_in ls fs t = map (λ (x : Row). entry_at ls fs x.number) (rows TOP (tree_of t))
+
+-- the entry that a line's facts tell
+abbrev pub entry_of : Facts → Entry
+entry_of f = record { number = f.number.number; origin = origin_of f.place; bytes = f.length }
 
 -- the entry of the record on a line
 abbrev pub entry_on : List ℕ → ℕ → Entry

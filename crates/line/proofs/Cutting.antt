@@ -4,40 +4,26 @@
 use mathlib.Core.Path.{◌≡◌, refl, sym, ap, ◌∙◌}
 use mathlib.Core.Bool.{Bool, true, false, cond, not, true≢false}
 use mathlib.Core.List.{List, [], ◌∷◌, ◌++◌, append-nil}
-use Prim.Native.Nat.{ℕ, suc, ◌+◌, ◌-◌, ◌<◌, ◌≤◌}
+use Prim.Native.Nat.{ℕ, suc, ◌+◌, ◌<◌, ◌≤◌}
 use native.Mathlib.Omega.{arith}
 use lib.Dec.{T, eqb, ltb}
 use lib.ListN.{length, get_or, take, drop, length-append}
 use lib.Seq.{length-take-le, get_or-drop}
-use borrow.Author.Rules.{rules}
 use borrow.Author.Tests.{eqb-true, eqb-false, eq-eqb, ne_eqb, lt-ltb, le-ltb}
-use Rattle.rules.specs.Codes.{accepted, byte_not_allowed, few_tabs}
+use Rattle.std.specs.Prelude.{Ok, Err}
 use Rattle.rules.specs.Lists.{every}
 use Rattle.rules.specs.Line.{number_part, parent_part, content_part}
 use Rattle.rules.specs.Text.{TAB, LF, allowed, count, before, after, fields, filled}
+use Rattle.rules.specs.declared.kinds.Fault.{Fault}
+use Rattle.rules.specs.declared.kinds.Fault.TheVariants.{ByteNotAllowed, FewTabs}
 use Rattle.text.specs.Reads.{byte_at, plain, plain_run, number_in, number_at}
 use Rattle.text.specs.declared.Number.{Number}
-use Rattle.line.specs.Parts.{short_fault, allowed_run, fields_from, shape_fault, no_parts, good_parts, parts_of}
+use Rattle.line.specs.Parts.{short_fault, allowed_run, fields_from, good_parts, parts_of}
 use Rattle.line.specs.declared.Fields.{Fields}
 use Rattle.line.specs.declared.Parts.{Parts}
 use Rattle.line.proofs.PlainBytes.{before-plain, after-plain, count-plain, allowed-plain}
 use Rattle.line.proofs.Places.{byte_first, part, Tabbed, part-plain, part_left, byte_stops, left_byte, tabbed}
-use Rattle.line.proofs.Places.{number_end, part_number}
-
--- ---- what is answered for a code
-
--- a line with code 4 or 5 has no parts
-refused : (l : List ℕ) (code : ℕ) → shape_fault l ≡ code → eqb code accepted ≡ false → no_parts code ≡ parts_of l
-refused l code e f =
-    sym (ap (λ (k : ℕ). cond (eqb k accepted) (good_parts l) (no_parts k)) e ∙ ap (λ (u : Bool). cond u (good_parts l) (no_parts code)) f)
-
--- and every other line has
-kept : (l : List ℕ) → shape_fault l ≡ accepted → good_parts l ≡ parts_of l
-kept l e = sym (ap (λ (k : ℕ). cond (eqb k accepted) (good_parts l) (no_parts k)) e)
-
--- a line that is too short has one of the two codes
-short_real : (x : ℕ) → eqb (short_fault x) accepted ≡ false
-short_real x = elim (eqb x LF) as (λ u. eqb (cond u few_tabs byte_not_allowed) accepted ≡ false) [ true ↦ refl | false ↦ refl ]
+use Rattle.line.proofs.Places.{number_end, part_number, number_high}
 
 -- ---- a line that ends too early
 
@@ -83,11 +69,11 @@ module _ (s : List ℕ) (from end x : ℕ) (e : end ≡ from + plain_run (drop f
             none = λ f. absurd (eqb-false x LF q f);
           }
 
--- its code: 4 for the byte that ended it, 5 for its LF
-shape_short : (l : List ℕ) (x : ℕ) → every allowed l ≡ eqb x LF → (x ≡ LF → count TAB l < 2) → shape_fault l ≡ short_fault x
-shape_short l x all few = go (eqb x LF) refl
+-- its fault: 4 for the byte that ended it, 5 for its LF
+parts_short : (l : List ℕ) (x : ℕ) → every allowed l ≡ eqb x LF → (x ≡ LF → count TAB l < 2) → Err (short_fault x) ≡ parts_of l
+parts_short l x all few = go (eqb x LF) refl
   where
-    go : (u : Bool) → eqb x LF ≡ u → shape_fault l ≡ cond u few_tabs byte_not_allowed
+    go : (u : Bool) → eqb x LF ≡ u → Err (cond u FewTabs ByteNotAllowed) ≡ parts_of l
     go true q = rw (all, q, lt-ltb (count TAB l) 2 (few (eqb-true x LF q)))
     go false q = rw (all, q)
 
@@ -166,17 +152,14 @@ module _ (p q c : List ℕ) (h : T (every plain p)) (k : T (every plain q)) wher
       le-ltb (count TAB (joined p q c)) 2 (omega (arith, n))
 
   -- only the content's bytes are left to judge
-  shape_content : (u : Bool) → every allowed c ≡ u → shape_fault (joined p q c) ≡ cond (not u) byte_not_allowed accepted
-  shape_content u e = rw (all-bytes, e, two_tabs)
+  parts_joined : (u : Bool) → every allowed c ≡ u
+      → parts_of (joined p q c) ≡ cond (not u) (Err ByteNotAllowed) (Ok (good_parts (joined p q c)))
+  parts_joined u e = rw (all-bytes, e, two_tabs)
 
   joined-long : length (joined p q c) ≡ length p + 1 + length q + 1 + length c
   joined-long = omega (arith, length-append p (TAB ∷ q ++ (TAB ∷ c)), length-append q (TAB ∷ c))
 
 -- ---- the ways through the cut
-
--- a tab stands before the content
-pub tab_before : (s : List ℕ) (end y : ℕ) → y ≡ byte_at s end → y ≡ TAB → byte_at s (end + 1 - 1) ≡ TAB
-tab_before s end y b t = let k : end + 1 - 1 ≡ end = omega arith in ap (byte_at s) k ∙ sym b ∙ t
 
 -- the line goes on behind the tab
 line_tab : (s : List ℕ) (from end : ℕ) → Tabbed s from end
@@ -189,11 +172,10 @@ module _ (s : List ℕ) (number : Number) (x : ℕ) (e : number ≡ number_at s 
   first = number.end
 
   -- it ends before its first tab, before its second, with a byte that is not allowed, or with its LF
-  pub cut-first : (code : ℕ) (r : Parts) → (x ≡ TAB → ⊥) → code ≡ short_fault x → r ≡ no_parts code → r ≡ parts_of (before LF s)
-  cut-first code r n f g =
+  pub cut-first : (f : Fault) → (x ≡ TAB → ⊥) → f ≡ short_fault x → Err f ≡ parts_of (before LF s)
+  cut-first f n q =
       let h = short s 0 first x (number_end s 0 number e) b n in
-      let shape : shape_fault (before LF s) ≡ short_fault x = shape_short (before LF s) x h.all (λ q. omega (arith, h.none q)) in
-      g ∙ ap no_parts f ∙ refused (before LF s) (short_fault x) shape (short_real x)
+      ap Err q ∙ parts_short (before LF s) x h.all (λ g. omega (arith, h.none g))
 
   module _ (t : x ≡ TAB) (parent : Number) (y : ℕ) (e₂ : parent ≡ number_at s (first + 1)) (b₂ : y ≡ byte_at s parent.end) where
     -- the place of the second tab
@@ -203,8 +185,8 @@ module _ (s : List ℕ) (number : Number) (x : ℕ) (e : number ≡ number_at s 
     one : Tabbed s 0 first
     one = tabbed s 0 first x (number_end s 0 number e) b t
 
-    pub cut-second : (code : ℕ) (r : Parts) → (y ≡ TAB → ⊥) → code ≡ short_fault y → r ≡ no_parts code → r ≡ parts_of (before LF s)
-    cut-second code r n f g = g ∙ ap no_parts f ∙ refused (before LF s) (short_fault y) shape (short_real y)
+    pub cut-second : (f : Fault) → (y ≡ TAB → ⊥) → f ≡ short_fault y → Err f ≡ parts_of (before LF s)
+    cut-second f n q = ap Err q ∙ parts_short l y all few ∙ ap parts_of (sym (line_tab s 0 first one))
       where
         h : Short (before LF (drop (first + 1) s)) y
         h = short s (first + 1) second y (number_end s (first + 1) parent e₂) b₂ n
@@ -218,11 +200,7 @@ module _ (s : List ℕ) (number : Number) (x : ℕ) (e : number ≡ number_at s 
         few : y ≡ LF → count TAB l < 2
         few q = omega (arith, count-plain TAB tt (part s 0 first) (TAB ∷ before LF (drop (first + 1) s)) one.bytes, h.none q)
 
-        shape : shape_fault (before LF s) ≡ short_fault y
-        shape = ap shape_fault (line_tab s 0 first one) ∙ shape_short l y all few
-
-    module _ (t₂ : y ≡ TAB) (content : Fields) (z : ℕ) (e₃ : content ≡ fields_from true (second + 1) (drop (second + 1) s))
-        (b₃ : z ≡ byte_at s content.end) where
+    module _ (t₂ : y ≡ TAB) (content : Fields) (z : ℕ) (e₃ : content ≡ fields_from s (second + 1)) (b₃ : z ≡ byte_at s content.end) where
       two : Tabbed s (first + 1) second
       two = tabbed s (first + 1) second y (number_end s (first + 1) parent e₂) b₂ t₂
 
@@ -243,13 +221,10 @@ module _ (s : List ℕ) (number : Number) (x : ℕ) (e : number ≡ number_at s 
       last_byte : z ≡ get_or u (allowed_run u) LF
       last_byte = b₃ ∙ ap (λ (f : Fields). byte_at s f.end) e₃ ∙ sym (get_or-drop (second + 1) s (allowed_run u) LF)
 
-      pub cut_third : (r : Parts) → (z ≡ LF → ⊥) → r ≡ no_parts byte_not_allowed → r ≡ parts_of (before LF s)
-      cut_third r n g = g ∙ refused (before LF s) byte_not_allowed shape refl
-        where
-          shape : shape_fault (before LF s) ≡ byte_not_allowed
-          shape =
-              ap shape_fault line_is
-              ∙ shape_content front middle (before LF u) one.bytes two.bytes false (allowed_stopped u (λ f. n (last_byte ∙ f)))
+      pub cut_third : (z ≡ LF → ⊥) → Err ByteNotAllowed ≡ parts_of (before LF s)
+      cut_third n =
+          sym (ap parts_of line_is
+          ∙ parts_joined front middle (before LF u) one.bytes two.bytes false (allowed_stopped u (λ f. n (last_byte ∙ f))))
 
       -- a line without a fault of its bytes and tabs
       abbrev whole : List ℕ
@@ -258,14 +233,13 @@ module _ (s : List ℕ) (number : Number) (x : ℕ) (e : number ≡ number_at s 
       whole_is : z ≡ LF → before LF s ≡ whole
       whole_is f = line_is ∙ ap (joined front middle) (allowed-ended u (sym last_byte ∙ f))
 
-      whole_shape : shape_fault whole ≡ accepted
-      whole_shape = shape_content front middle (take (allowed_run u) u) one.bytes two.bytes true (allowed_all u)
+      whole_kept : parts_of whole ≡ Ok (good_parts whole)
+      whole_kept = parts_joined front middle (take (allowed_run u) u) one.bytes two.bytes true (allowed_all u)
 
       -- the parts as they were found
       abbrev found : Parts
       found =
           record {
-            code = accepted;
             number = number.value;
             parent = parent.value;
             start = second + 1;
@@ -276,7 +250,6 @@ module _ (s : List ℕ) (number : Number) (x : ℕ) (e : number ≡ number_at s 
       whole_parts : found ≡ good_parts whole
       whole_parts =
           λ i. record {
-            code = accepted;
             number = own i;
             parent = above i;
             start = start i;
@@ -317,7 +290,7 @@ module _ (s : List ℕ) (number : Number) (x : ℕ) (e : number ≡ number_at s 
               ∙ ap (λ (r : List ℕ). every filled (fields r))
               (sym (last-part front middle (take (allowed_run u) u) one.bytes two.bytes))
 
-      pub cut-good : z ≡ LF → found ≡ parts_of (before LF s)
-      cut-good f = whole_parts ∙ kept whole whole_shape ∙ ap parts_of (sym (whole_is f))
+      pub cut-good : z ≡ LF → Ok found ≡ parts_of (before LF s)
+      cut-good f = ap Ok whole_parts ∙ sym whole_kept ∙ ap parts_of (sym (whole_is f))
 
-pub ruleset cuts = (cut-first, cut-second, cut_third, cut-good, rules)
+pub ruleset cuts = (cut-first, cut-second, cut_third, cut-good, number_high)

@@ -3,18 +3,16 @@
 use mathlib.Core.Path.{◌≡◌, refl, sym, ap, ◌∙◌}
 use mathlib.Core.Bool.{Bool, true, false, not, ◌&&◌, ◌||◌, and-true, and_assoc, true≢false}
 use mathlib.Core.List.{List, [], ◌∷◌}
-use Prim.Native.Nat.{ℕ, zero, suc, ◌+◌, ◌-◌, ◌^◌, ◌<◌, ◌≤◌}
+use Prim.Native.Nat.{ℕ, zero, suc, ◌+◌, ◌-◌, ◌<◌, ◌≤◌}
 use native.Mathlib.Omega.{arith}
 use lib.Dec.{eqb}
 use lib.ListN.{length, get_or, drop, length-drop}
 use lib.Seq.{get_or-drop, drop-drop}
-use mir.Val.{Fits}
-use mir.Syntax.{w64}
-use borrow.Author.Rules.{rules}
 use borrow.Author.Tests.{eqb-true}
+use Rattle.std.proofs.lemmas.List.{get_or_default}
 use Rattle.rules.specs.Text.{TAB, LF}
 use Rattle.text.specs.Reads.{byte_at, plain}
-use Rattle.text.proofs.Places.{left-next, byte_here}
+use Rattle.text.proofs.Places.{left-next}
 use Rattle.text.proofs.Runs.{both}
 use Rattle.line.specs.Parts.{allowed_run, good_after, good_bytes, good_from, rest_filled, fields_at}
 
@@ -114,89 +112,28 @@ module _ (s : List ℕ) (i : ℕ) where
       (λ j. good_from m s i && good_bytes n (sym (byte_behind m) j) (sym (left_behind m) j))
       ∙ bytes_parted m n (byte_at s (i - 1)) (drop i s)
 
--- ---- eight bytes together, and sixteen
+  -- one byte more is good
+  pub good_on : (k : ℕ) → 1 ≤ i → i + k < length s
+      → (good_from k s i && good_after (get_or s (i + k - 1) 0) (get_or s (i + k) 0)) ≡ good_from (k + 1) s i
+  good_on k h n = ap (λ (u : Bool). good_from k s i && u) (sym one) ∙ from_parted k 1
+    where
+      one : good_from 1 s (i + k) ≡ good_after (get_or s (i + k - 1) 0) (get_or s (i + k) 0)
+      one =
+          rw (← get_or_default s (i + k - 1) 0 LF (omega arith), left-next s (i + k) n)
+          (and-true (good_after (get_or s (i + k - 1) 0) (get_or s (i + k) 0)))
 
-pub after_tests : (y x : ℕ) (r : Bool) → r ≡ plain x → ((eqb x TAB && not (eqb y TAB)) || r) ≡ good_after y x
-after_tests y x r e = rw e
+pub good_few : (s : List ℕ) (i n : ℕ) → length s - i < n → false ≡ good_from n s i
+good_few s i n h = from_out s i n (omega arith) (omega arith)
 
-joined : (a b c d u : Bool) → ((a && (b && (c && d))) && u) ≡ (a && (b && (c && (d && u))))
-joined true true true d u = refl
-joined true true false d u = refl
-joined true false c d u = refl
-joined false b c d u = refl
+pub ruleset groups = (good_on, good_few)
 
-pub eight_tests : (y a b c d e f g h : ℕ) (r₁ r₂ r₃ r₄ r₅ r₆ r₇ r₈ : Bool)
-    → r₁ ≡ good_after y a → r₂ ≡ good_after a b → r₃ ≡ good_after b c → r₄ ≡ good_after c d
-    → r₅ ≡ good_after d e → r₆ ≡ good_after e f → r₇ ≡ good_after f g → r₈ ≡ good_after g h
-    → ((r₁ && (r₂ && (r₃ && r₄))) && (r₅ && (r₆ && (r₇ && r₈)))) ≡ good_bytes 8 y (a ∷ b ∷ c ∷ d ∷ e ∷ f ∷ g ∷ h ∷ [])
-eight_tests y a b c d e f g h r₁ r₂ r₃ r₄ r₅ r₆ r₇ r₈ q₁ q₂ q₃ q₄ q₅ q₆ q₇ q₈ =
-    let last : r₈ ≡ (good_after g h && true) = q₈ ∙ sym (and-true (good_after g h)) in
-    joined r₁ r₂ r₃ r₄ (r₅ && (r₆ && (r₇ && r₈)))
-    ∙ (λ i. q₁ i && (q₂ i && (q₃ i && (q₄ i && (q₅ i && (q₆ i && (q₇ i && last i)))))))
+-- ---- the loop that passes over them
 
-module _ (s : List ℕ) (i : ℕ) where
-  left_at : (k : ℕ) → i + k < length s → drop (i + k) s ≡ get_or s (i + k) 0 ∷ drop (i + suc k) s
-  left_at k h = let e : i + k + 1 ≡ i + suc k = omega arith in left-next s (i + k) h ∙ ap (λ (j : ℕ). get_or s (i + k) 0 ∷ drop j s) e
+module _ (s : List ℕ) (i n : ℕ) (r : Bool) (e : r ≡ good_from n s i) (t : r ≡ true) where
+  pub passed_in : 1 ≤ n → i + n ≤ length s
+  passed_in h = from_in s i n h (sym e ∙ t)
 
-  -- the eight bytes there
-  abbrev eight : List ℕ
-  eight =
-      get_or s i 0 ∷ get_or s (i + 1) 0 ∷ get_or s (i + 2) 0 ∷ get_or s (i + 3) 0 ∷ get_or s (i + 4) 0 ∷ get_or s (i + 5) 0
-      ∷ get_or s (i + 6) 0 ∷ get_or s (i + 7) 0 ∷ []
+  pub passed_on : fields_at s (i + n) ≡ fields_at s i
+  passed_on = from_on s i n (sym e ∙ t)
 
-  pub eight_here : (r : Bool) → 1 ≤ i → i + 8 ≤ length s → r ≡ good_bytes 8 (get_or s (i - 1) 0) eight → r ≡ good_from 8 s i
-  eight_here r h k e =
-      e ∙ rw (
-        ← (byte_here s (i - 1) (omega arith)),
-        left-next s i (omega arith),
-        left_at 1 (omega arith),
-        left_at 2 (omega arith),
-        left_at 3 (omega arith),
-        left_at 4 (omega arith),
-        left_at 5 (omega arith),
-        left_at 6 (omega arith),
-        left_at 7 (omega arith),
-      )
-
-  pub eight_short : length s < 8 → false ≡ good_from 8 s i
-  eight_short h = from_out s i 8 (omega arith) (omega arith)
-
-  pub eight_late : 8 ≤ length s → length s - 8 < i → false ≡ good_from 8 s i
-  eight_late h k = from_out s i 8 (omega arith) (omega arith)
-
-  pub sixteen_short : length s < 16 → false ≡ good_from 16 s i
-  sixteen_short h = from_out s i 16 (omega arith) (omega arith)
-
-  pub sixteen_late : 16 ≤ length s → length s - 16 < i → false ≡ good_from 16 s i
-  sixteen_late h k = from_out s i 16 (omega arith) (omega arith)
-
-  pub sixteen_here : (u v : Bool) → u ≡ good_from 8 s i → v ≡ good_from 8 s (i + 8) → (u && v) ≡ good_from 16 s i
-  sixteen_here u v e f = (λ j. e j && f j) ∙ from_parted s i 8 8
-
-pub ruleset groups = (after_tests, eight_tests, eight_here, eight_short, eight_late, sixteen_short, sixteen_late, sixteen_here, rules)
-
--- ---- the loops that pass over them
-
--- the place reached, and the fields from there are those from the start
-pub record Passed (s : List ℕ) (from i : ℕ) : Type 0 where
-  pub low : 1 ≤ i
-  pub same : fields_at s i ≡ fields_at s from
-
-module _ (s : List ℕ) (from i : ℕ) where
-  pub passed_none : 1 ≤ from → Passed s from from
-  passed_none h = record { low = h; same = refl }
-
-  module _ (r : Bool) (n : ℕ) (h : 1 ≤ n) (e : r ≡ good_from n s i) (t : r ≡ true) where
-    passed_in : i + n ≤ length s
-    passed_in = from_in s i n h (sym e ∙ t)
-
-    pub passed_fits : length s < 2 ^ 64 → Fits w64 (i + n)
-    passed_fits k = record { fits = omega (arith, passed_in) }
-
-    pub passed_less : length s - (i + n) < length s - i
-    passed_less = omega (arith, passed_in)
-
-    pub passed_on : Passed s from i → Passed s from (i + n)
-    passed_on p = record { low = omega (arith, p.low); same = from_on s i n (sym e ∙ t) ∙ p.same }
-
-pub ruleset passing = (passed_none, passed_fits, passed_less, passed_on, rules)
+pub ruleset passing = (passed_in, passed_on)

@@ -3,271 +3,241 @@
 use mathlib.Core.Path.{◌≡◌, refl, sym, ap, ◌∙◌}
 use mathlib.Core.Bool.{Bool, true, false, cond, not, ◌&&◌, true≢false, and-false}
 use mathlib.Core.List.{List, []}
-use Prim.Native.Nat.{ℕ, min, ◌+◌, ◌-◌, ◌^◌, ◌<◌, ◌≤◌}
+use Prim.Native.Nat.{ℕ, ◌+◌, ◌-◌, ◌^◌, ◌<◌, ◌≤◌}
 use native.Mathlib.Omega.{arith}
 use mir.Val.{Fits}
 use mir.Syntax.{w64}
 use lib.Dec.{eqb, leb, ltb}
-use lib.ListN.{length, take, drop, length-drop, length-append}
-use borrow.Author.Rules.{rules}
-use borrow.Author.Tests.{ne_eqb, le-leb, lt-leb, leb-true, leb-false, not-false}
+use lib.ListN.{length, drop, length-drop, length-append}
+use borrow.Author.Tests.{ne_eqb, leb-true, leb-false}
+use Rattle.std.specs.Prelude.{Option, Some, None, Result, Ok, Err, ok_or}
+use Rattle.std.proofs.lemmas.Option.{cond_some}
 use Rattle.rules.specs.Codes.{accepted, byte_not_allowed, few_tabs, bad_number, bad_parent, bad_content}
 use Rattle.rules.specs.Limits.{GREATEST}
 use Rattle.rules.specs.Lists.{every}
 use Rattle.rules.specs.Marks.{is_record}
 use Rattle.rules.specs.Line.{number_part, parent_part, content_part, number_ok, parent_ok, line_fault}
+use Rattle.rules.specs.declared.kinds.Fault.{Fault}
+use Rattle.rules.specs.declared.kinds.Fault.TheVariants.{ByteNotAllowed, FewTabs, BadNumber, BadParent, BadContent}
 use Rattle.rules.specs.declared.record.Record.{Record}
 use Rattle.rules.specs.Text.{TAB, LF, allowed, count, before, decimal, value, content_ok}
 use Rattle.readback.proofs.Splitting.{before-left}
-use Rattle.text.specs.Reads.{NONE, number_in}
-use Rattle.text.proofs.Places.{part-from, left_none}
-use Rattle.line.specs.Parts.{content_fits, shape_fault, no_parts, good_parts, parts_of}
-use Rattle.line.specs.Told.{faulty, good, line_told, next_line, reached_from}
+use Rattle.text.specs.Reads.{number_in}
+use Rattle.text.proofs.Places.{left_none}
+use Rattle.line.specs.Parts.{content_fits, good_parts, parts_of}
+use Rattle.line.specs.Told.{good, fault_of, line_told, next_line, from_place, reached_from}
 use Rattle.line.specs.declared.Reached.{Reached}
 use Rattle.line.specs.declared.Parts.{Parts}
 use Rattle.line.proofs.Parting.{Cut, cut_is}
 
 -- ---- what is told of a line with a fault, and of one without
 
-told-faulty : (l : List ℕ) (code : ℕ) → line_fault l ≡ code → (code ≡ accepted → ⊥) → faulty code ≡ line_told l
+told_faulty : (l : List ℕ) (code : ℕ) → line_fault l ≡ code → (code ≡ accepted → ⊥) → Err (fault_of code) ≡ line_told l
 unfolding line_told
-told-faulty l code e n =
-    sym (ap (λ (k : ℕ). cond (eqb k accepted) (good l) (faulty k)) e
-    ∙ ap (λ (u : Bool). cond u (good l) (faulty code)) (ne_eqb code accepted n))
+told_faulty l code e n =
+    sym (ap (λ (k : ℕ). cond (eqb k accepted) (Ok (good l)) (Err (fault_of k))) e
+    ∙ ap (λ (u : Bool). cond u (Ok (good l)) (Err (fault_of code))) (ne_eqb code accepted n))
 
-pub told-good : (l : List ℕ) → line_fault l ≡ accepted → good l ≡ line_told l
+pub told-good : (l : List ℕ) → line_fault l ≡ accepted → Ok (good l) ≡ line_told l
 unfolding line_told
-told-good l e = sym (ap (λ (k : ℕ). cond (eqb k accepted) (good l) (faulty k)) e)
-
--- ---- codes 4 and 5 come before the others
-
--- codes 6 to 8, for the answers of their tests
-abbrev judged : Bool → Bool → Bool → ℕ
-judged number parent content = cond (not number) bad_number (cond (not parent) bad_parent (cond (not content) bad_content accepted))
-
--- codes 4 and 5 before what is left
-abbrev shaped : Bool → Bool → ℕ → ℕ
-shaped bytes tabs rest = cond bytes byte_not_allowed (cond tabs few_tabs rest)
-
-others_shut : (a b : Bool) (rest : ℕ) → (shaped a b accepted ≡ accepted → ⊥) → shaped a b rest ≡ shaped a b accepted
-others_shut true b rest n = refl
-others_shut false true rest n = refl
-others_shut false false rest n = absurd (n refl)
-
-others_open : (a b : Bool) (rest : ℕ) → shaped a b accepted ≡ accepted → shaped a b rest ≡ rest
-others_open true b rest e = absurd (omega arith)
-others_open false true rest e = absurd (omega arith)
-others_open false false rest e = refl
-
-module _ (l : List ℕ) where
-  fault_shape : (shape_fault l ≡ accepted → ⊥) → line_fault l ≡ shape_fault l
-  fault_shape n = others_shut (not (every allowed l)) (ltb (count TAB l) 2) _ n
-
-  fault-judged : shape_fault l ≡ accepted
-      → line_fault l ≡ judged (number_ok (number_part l)) (parent_ok (parent_part l)) (content_ok (content_part l))
-  fault-judged e = others_open (not (every allowed l)) (ltb (count TAB l) 2) _ e
+told-good l e = sym (ap (λ (k : ℕ). cond (eqb k accepted) (Ok (good l)) (Err (fault_of k))) e)
 
 -- ---- numbers
 
 -- a decimal above the greatest number counts as none
-record_read : (d : Bool) (v : ℕ) → is_record (cond (d && leb v GREATEST) v NONE) ≡ (d && is_record v)
-record_read false v = refl
-record_read true v = go (leb v GREATEST) refl
-  where
-    go : (u : Bool) → leb v GREATEST ≡ u → is_record (cond u v NONE) ≡ is_record v
-    go true q = refl
-    go false q = rw q (sym (and-false (leb 1 v)))
-
-top_read : (d : Bool) (v : ℕ) → leb (cond (d && leb v GREATEST) v NONE) GREATEST ≡ (d && leb v GREATEST)
-top_read false v = refl
-top_read true v = go (leb v GREATEST) refl
-  where
-    go : (u : Bool) → leb v GREATEST ≡ u → leb (cond u v NONE) GREATEST ≡ u
-    go true q = q
-    go false q = refl
-
-module _ (p : List ℕ) (n : ℕ) (e : n ≡ number_in p) where
-  number_ok_lem : is_record n ≡ number_ok p
-  number_ok_lem = ap is_record e ∙ record_read (decimal p) (value p)
-
-  parent_ok_lem : leb n GREATEST ≡ parent_ok p
-  parent_ok_lem = ap (λ (k : ℕ). leb k GREATEST) e ∙ top_read (decimal p) (value p)
-
-  parent_is : parent_ok p ≡ true → n ≡ value p
-  parent_is h = e ∙ ap (λ (u : Bool). cond u (value p) NONE) h
-
-  number_is : number_ok p ≡ true → n ≡ value p
-  number_is h = parent_is (go (decimal p) (leb 1 (value p)) (leb (value p) GREATEST) h)
+module _ (p : List ℕ) where
+  none_read : number_in p ≡ None → (decimal p && leb (value p) GREATEST) ≡ false
+  none_read = go (decimal p && leb (value p) GREATEST)
     where
-      go : (a b c : Bool) → (a && (b && c)) ≡ true → (a && c) ≡ true
-      go true true c f = f
-      go true false c f = absurd (true≢false (sym f))
-      go false b c f = f
+      go : (u : Bool) → cond u (Some (value p)) None ≡ None → u ≡ false
+      go true e = cc
+      go false e = refl
+
+  number_none : number_in p ≡ None → number_ok p ≡ false
+  number_none e = go (decimal p) (leb 1 (value p)) (leb (value p) GREATEST) (none_read e)
+    where
+      go : (a b c : Bool) → (a && c) ≡ false → (a && (b && c)) ≡ false
+      go true b c f = rw f (and-false b)
+      go false b c f = refl
+
+  number_some : (n : ℕ) → number_in p ≡ Some n → (parent_ok p ≡ true) × (value p ≡ n)
+  number_some n e = cond_some (parent_ok p) (value p) n e
+
+  number_is : (n : ℕ) → number_in p ≡ Some n → number_ok p ≡ is_record n
+  number_is n e =
+      let w = number_some n e in
+      go (decimal p) (leb 1 (value p)) (leb (value p) GREATEST) w.0 ∙ ap is_record w.1
+    where
+      go : (a b c : Bool) → (a && c) ≡ true → (a && (b && c)) ≡ (b && c)
+      go true b c f = refl
+      go false b c f = absurd (true≢false (sym f))
 
 -- ---- the ways through reading a line
 
--- the parts are cut and the number is good, and then the parent
-pub record Numbered (s : List ℕ) (parts : Parts) : Type 0 where
-  pub cut : Cut s parts
-  pub ok : number_ok (number_part (before LF s)) ≡ true
-  pub is : parts.number ≡ value (number_part (before LF s))
-
-pub record Parented (s : List ℕ) (parts : Parts) : Type 0 where
-  pub number : Numbered s parts
-  pub ok : parent_ok (parent_part (before LF s)) ≡ true
-  pub is : parts.parent ≡ value (parent_part (before LF s))
-
-module _ (s : List ℕ) (parts : Parts) where
+module _ (s : List ℕ) where
   abbrev l : List ℕ
   l = before LF s
 
-  pub judge_shape : (r : Reached) → parts ≡ parts_of l → (parts.code ≡ accepted → ⊥) → r ≡ faulty parts.code → r ≡ next_line s
-  judge_shape r e n f = f ∙ ap faulty code ∙ told-faulty l (shape_fault l) (fault_shape l bad) bad
+  -- the fault of its bytes or tabs comes first
+  pub judge_shape : (f : Fault) → Err f ≡ parts_of l → Err f ≡ next_line s
+  judge_shape f e = go (every allowed l) (ltb (count TAB l) 2) refl refl e
     where
-      bad : shape_fault l ≡ accepted → ⊥
-      bad z = n (ap (λ (q : Parts). q.code) e ∙ ap (λ (k : ℕ). (cond (eqb k accepted) (good_parts l) (no_parts k)).code) z)
+      go : (a b : Bool) → every allowed l ≡ a → ltb (count TAB l) 2 ≡ b
+          → Err f ≡ cond (not a) (Err ByteNotAllowed) (cond b (Err FewTabs) (Ok (good_parts l))) → Err f ≡ next_line s
+      go true true p q g =
+          let e : f ≡ FewTabs = cc in ap Err e ∙ told_faulty l few_tabs (rw (p, q)) (λ z. absurd (omega (arith, z)))
+      go true false p q g = cc
+      go false b p q g =
+          let e : f ≡ ByteNotAllowed = cc in ap Err e ∙ told_faulty l byte_not_allowed (rw p) (λ z. absurd (omega (arith, z)))
 
-      code : parts.code ≡ shape_fault l
-      code =
-          ap (λ (q : Parts). q.code) e
-          ∙ ap (λ (u : Bool). (cond u (good_parts l) (no_parts (shape_fault l))).code) (ne_eqb (shape_fault l) accepted bad)
+-- the parts are cut and the number is good, and then the parent
+pub record Numbered (s : List ℕ) (parts : Parts) (n : ℕ) : Type 0 where
+  pub cut : Cut s parts
+  pub ok : number_ok (number_part (before LF s)) ≡ true
+  pub is : value (number_part (before LF s)) ≡ n
 
-  judged_is : Cut s parts → line_fault l ≡ judged (number_ok (number_part l)) (parent_ok (parent_part l)) (content_ok (content_part l))
-  judged_is k = fault-judged l k.shape
+pub record Parented (s : List ℕ) (parts : Parts) (n m : ℕ) : Type 0 where
+  pub number : Numbered s parts n
+  pub ok : parent_ok (parent_part (before LF s)) ≡ true
+  pub is : value (parent_part (before LF s)) ≡ m
 
-  -- n is the number as a record's, u whether it may be one
-  module _ (n : ℕ) (u : Bool) (k : Cut s parts) (f : n ≡ parts.number) (g : u ≡ is_record n) where
-    number_tested : u ≡ number_ok (number_part l)
-    number_tested = g ∙ ap is_record f ∙ number_ok_lem (number_part l) parts.number k.number
+read_some : (o : Option ℕ) (f : Fault) (n : ℕ) → ok_or o f ≡ Ok n → o ≡ Some n
+read_some (Some x) f n e = cc
+read_some None f n e = cc
 
-    pub judge_number : (r : Reached) → not u ≡ true → r ≡ faulty bad_number → r ≡ next_line s
-    judge_number r h q = q ∙ told-faulty l bad_number (judged_is k ∙ rw (← number_tested, h)) (λ z. absurd (omega (arith, z)))
+read_none : (o : Option ℕ) (f g : Fault) → ok_or o f ≡ Err g → (o ≡ None) × (g ≡ f)
+read_none (Some x) f g e = cc
+read_none None f g e = let same : g ≡ f = cc in (refl, same)
 
-    pub numbered : not u ≡ false → Numbered s parts
-    numbered h =
-        let ok : number_ok (number_part l) ≡ true = sym number_tested ∙ not-false u h in
-        record { cut = k; ok = ok; is = number_is (number_part l) parts.number k.number ok }
+module _ (s : List ℕ) (parts : Parts) (k : Cut s parts) (r : Result ℕ Fault) (b : r ≡ ok_or parts.number BadNumber) where
+  bad_number_told : number_ok (number_part (before LF s)) ≡ false → Err BadNumber ≡ next_line s
+  bad_number_told f = told_faulty (before LF s) bad_number (rw (k.bytes, k.tabs, f)) (λ z. absurd (omega (arith, z)))
 
-  module _ (a : Numbered s parts) where
-    parent_tested : leb parts.parent GREATEST ≡ parent_ok (parent_part l)
-    parent_tested = parent_ok_lem (parent_part l) parts.parent a.cut.parent
+  pub judge_none : (f : Fault) → r ≡ Err f → Err f ≡ next_line s
+  judge_none f q =
+      let w = read_none parts.number BadNumber f (sym b ∙ q) in
+      ap Err w.1 ∙ bad_number_told (number_none (number_part (before LF s)) (sym k.number ∙ w.0))
 
-    pub judge_parent : (r : Reached) → GREATEST < parts.parent → r ≡ faulty bad_parent → r ≡ next_line s
-    judge_parent r h q =
-        q
-        ∙ told-faulty l bad_parent (judged_is a.cut ∙ rw (a.ok, ← parent_tested, lt-leb parts.parent GREATEST h))
-        (λ z. absurd (omega (arith, z)))
+  -- n is the number read, w that number as a record's, u whether it may be one
+  module _ (n w : ℕ) (u : Bool) (q : r ≡ Ok n) (v : w ≡ n) (t : u ≡ is_record w) where
+    read : number_in (number_part (before LF s)) ≡ Some n
+    read = sym k.number ∙ read_some parts.number BadNumber n (sym b ∙ q)
 
-    pub parented : parts.parent ≤ GREATEST → Parented s parts
-    parented h =
-        let ok : parent_ok (parent_part l) ≡ true = sym parent_tested ∙ le-leb parts.parent GREATEST h in
-        record { number = a; ok = ok; is = parent_is (parent_part l) parts.parent a.cut.parent ok }
+    tested : number_ok (number_part (before LF s)) ≡ u
+    tested = number_is (number_part (before LF s)) n read ∙ sym (t ∙ ap is_record v)
 
-  -- `long` is the content's length, u whether the content keeps its rule
-  module _ (long : ℕ) (u : Bool) (a : Parented s parts) (d : long ≡ parts.end - parts.start)
-      (e : u ≡ content_fits long parts.filled) where
-    cut : Cut s parts
-    cut = a.number.cut
+    pub judge_number : u ≡ false → Err BadNumber ≡ next_line s
+    judge_number f = bad_number_told (tested ∙ f)
 
-    long_is : long ≡ length (content_part l)
-    long_is = d ∙ cut.content
+    pub numbered : u ≡ true → Numbered s parts n
+    numbered f = record { cut = k; ok = tested ∙ f; is = (number_some (number_part (before LF s)) n read).1 }
 
-    content_tested : u ≡ content_ok (content_part l)
-    content_tested = e ∙ rw (long_is, cut.filled)
+module _ (s : List ℕ) (parts : Parts) (n : ℕ) (a : Numbered s parts n) (r : Result ℕ Fault) (b : r ≡ ok_or parts.parent BadParent) where
+  pub judge_parent : (f : Fault) → r ≡ Err f → Err f ≡ next_line s
+  judge_parent f q =
+      ap Err w.1 ∙ told_faulty (before LF s) bad_parent (rw (a.cut.bytes, a.cut.tabs, a.ok, none)) (λ z. absurd (omega (arith, z)))
+    where
+      w : (parts.parent ≡ None) × (f ≡ BadParent)
+      w = read_none parts.parent BadParent f (sym b ∙ q)
 
-    content-judged : line_fault l ≡ cond (not u) bad_content accepted
-    content-judged = judged_is cut ∙ rw (a.number.ok, a.ok, ← content_tested)
+      none : parent_ok (parent_part (before LF s)) ≡ false
+      none = none_read (parent_part (before LF s)) (sym a.cut.parent ∙ w.0)
 
-    pub judge_content : (r : Reached) → not u ≡ true → r ≡ faulty bad_content → r ≡ next_line s
-    judge_content r h q = q ∙ told-faulty l bad_content (content-judged ∙ rw h) (λ z. absurd (omega (arith, z)))
+  pub parented : (m : ℕ) → r ≡ Ok m → Parented s parts n m
+  parented m q =
+      let w = number_some (parent_part (before LF s)) m (sym a.cut.parent ∙ read_some parts.parent BadParent m (sym b ∙ q)) in
+      record { number = a; ok = w.0; is = w.1 }
 
-    start_is : parts.start ≡ length l - length (content_part l)
-    start_is = omega (arith, cut.content, cut.long, cut.low)
+-- `long` is the content's length, u whether the content keeps its rule
+module _ (s : List ℕ) (parts : Parts) (n m long : ℕ) (u : Bool) (a : Parented s parts n m) (d : long ≡ parts.end - parts.start)
+    (f : u ≡ content_fits long parts.filled) where
+  k : Cut s parts
+  k = a.number.cut
 
-    behind_is : parts.end + 1 ≡ length l + 1
-    behind_is = ap (λ (x : ℕ). x + 1) cut.long
+  long_is : long ≡ length (content_part (before LF s))
+  long_is = d ∙ k.content
 
-    module _ (number parent : Record) (p : number.number ≡ parts.number) (q : parent.number ≡ parts.parent) where
-      abbrev row : Reached
-      row =
-          record {
-            line = record {
-              code = accepted;
-              number = number;
-              parent = parent;
-              start = parts.start;
-              length = long;
-            };
-            at = parts.end + 1;
-          }
+  content_tested : content_ok (content_part (before LF s)) ≡ u
+  content_tested = sym (f ∙ rw (long_is, k.filled))
 
-      row_is : row ≡ good l
-      row_is =
-          λ i. record {
-            line = record {
-              code = accepted;
-              number = record { number = (p ∙ a.number.is) i };
-              parent = record { number = (q ∙ a.is) i };
-              start = start_is i;
-              length = long_is i;
-            };
-            at = behind_is i;
-          }
+  judged : line_fault (before LF s) ≡ cond (not u) bad_content accepted
+  judged = rw (k.bytes, k.tabs, a.number.ok, a.ok, content_tested)
 
-      pub row_told : not u ≡ false → row ≡ next_line s
-      row_told h = row_is ∙ told-good l (content-judged ∙ rw h)
+  pub judge_content : u ≡ false → Err BadContent ≡ next_line s
+  judge_content g = told_faulty (before LF s) bad_content (judged ∙ rw g) (λ z. absurd (omega (arith, z)))
 
-pub ruleset judges = (cut_is, judge_shape, judge_number, numbered, judge_parent, parented, judge_content, row_told, rules)
+  module _ (number parent : Record) (p : number.number ≡ n) (q : parent.number ≡ m) where
+    abbrev row : Reached
+    row =
+        record {
+          line = record {
+            number = number;
+            parent = parent;
+            start = parts.start;
+            length = long;
+          };
+          at = parts.end + 1;
+        }
+
+    row_is : row ≡ good (before LF s)
+    row_is =
+        λ i. record {
+          line = record {
+            number = record { number = (p ∙ sym a.number.is) i };
+            parent = record { number = (q ∙ sym a.is) i };
+            start = start_is i;
+            length = long_is i;
+          };
+          at = ap (λ (x : ℕ). x + 1) k.long i;
+        }
+      where
+        start_is : parts.start ≡ length (before LF s) - length (content_part (before LF s))
+        start_is = omega (arith, k.content, k.long, k.low)
+
+    pub row_told : u ≡ true → Ok row ≡ next_line s
+    row_told g = ap Ok row_is ∙ told-good (before LF s) (judged ∙ rw g)
+
+pub ruleset judges = (cut_is, judge_shape, judge_none, judge_number, numbered, judge_parent, parented, judge_content, row_told)
 
 -- ---- the line at a place
 
--- `from` is the place, or the end of the text where the place lies beyond it
-from_place : (s : List ℕ) (place from : ℕ) → from ≡ min place (length s) → drop from s ≡ drop place s
-from_place s place from e = go (leb place (length s)) refl
-  where
-    go : (u : Bool) → leb place (length s) ≡ u → drop from s ≡ drop place s
-    go true q = let f : from ≡ place = omega (arith, e, leb-true place (length s) q) in ap (λ (k : ℕ). drop k s) f
-    go false q =
-        let h : length s < place = leb-false place (length s) q in
-        left_none s from (omega (arith, e, h)) ∙ sym (left_none s place (omega (arith, h)))
-
--- a line ends at most behind the last byte, and nowhere if nothing is left
-behind-le : (rest : List ℕ) → (next_line rest).at ≤ length rest + 1
+told_is : (l : List ℕ) (r : Reached) → Ok r ≡ line_told l → r ≡ good l
 unfolding line_told
-behind-le rest = go (eqb (line_fault (before LF rest)) accepted)
+told_is l r e = go (eqb (line_fault l) accepted) e
   where
-    within : length (before LF rest) ≤ length rest
-    within =
-        let b = length (before LF rest) in
-        omega (arith, ap length (before-left LF rest), length-append (before LF rest) (drop b rest))
+    go : (u : Bool) → Ok r ≡ cond u (Ok (good l)) (Err (fault_of (line_fault l))) → r ≡ good l
+    go true f = cc
+    go false f = cc
 
-    go : (u : Bool) → (cond u (good (before LF rest)) (faulty (line_fault (before LF rest)))).at ≤ length rest + 1
-    go true = omega (arith, within)
-    go false = omega arith
-
-behind_none : (next_line []).at ≡ 0
+-- where nothing is left, no line is told
+none_told : (r : Reached) → Ok r ≡ next_line [] → ⊥
 unfolding line_told
-behind_none = refl
+none_told r e = cc
 
--- r is what is told of what is left from `from` on
-module _ (s : List ℕ) (place from : ℕ) (r : Reached) (e : from ≡ min place (length s))
-    (f : r ≡ next_line (take (length s - from) (drop from s))) where
-  place-told : r ≡ next_line (drop place s)
-  place-told = f ∙ ap next_line (part-from s from ∙ from_place s place from e)
+-- a line ends at most behind the last byte
+behind-le : (rest : List ℕ) (r : Reached) → Ok r ≡ next_line rest → r.at ≤ length rest + 1
+behind-le rest r e =
+    let b = length (before LF rest) in
+    omega (
+      arith,
+      ap (λ (z : Reached). z.at) (told_is (before LF rest) r e),
+      ap length (before-left LF rest),
+      length-append (before LF rest) (drop b rest),
+    )
 
-  behind-told : r.at ≡ (next_line (drop place s)).at
-  behind-told = ap (λ (z : Reached). z.at) place-told
+pub reached_fits : (s : List ℕ) (place : ℕ) (r : Reached) → Ok r ≡ next_line (drop place s) → length s + 1 < 2 ^ 64
+    → Fits w64 (place + r.at)
+reached_fits s place r e h = record { fits = go (leb (length s) place) refl }
+  where
+    go : (u : Bool) → leb (length s) place ≡ u → place + r.at < 2 ^ 64
+    go true q = absurd (none_told r (e ∙ ap next_line (left_none s place (leb-true (length s) place q))))
+    go false q = omega (arith, behind-le (drop place s) r e, h, length-drop place s, leb-false (length s) place q)
 
-  pub reached_fits : place < 2 ^ 64 → length s + 1 < 2 ^ 64 → Fits w64 (place + r.at)
-  reached_fits h k = record { fits = go (leb place (length s)) refl }
-    where
-      go : (u : Bool) → leb place (length s) ≡ u → place + r.at < 2 ^ 64
-      go true q = omega (arith, behind-told, behind-le (drop place s), k, length-drop place s, leb-true place (length s) q)
-      go false q =
-          let none : drop place s ≡ [] = left_none s place (omega (arith, leb-false place (length s) q)) in
-          omega (arith, behind-told, ap (λ (z : List ℕ). (next_line z).at) none, behind_none, h)
+pub reached_told : (s : List ℕ) (place : ℕ) (r : Reached) → Ok r ≡ next_line (drop place s)
+    → Ok (record { line = r.line; at = place + r.at }) ≡ reached_from s place
+reached_told s place r e = ap (from_place place) e
 
-  pub reached_told : record { line = r.line; at = place + r.at } ≡ reached_from s place
-  reached_told = ap (λ (z : Reached). record { line = z.line; at = place + z.at }) place-told
+pub reached_faulty : (s : List ℕ) (place : ℕ) (f : Fault) → Err f ≡ next_line (drop place s) → Err f ≡ reached_from s place
+reached_faulty s place f e = ap (from_place place) e
 
-pub ruleset reaches = (reached_told, rules)
+pub ruleset reaches = (reached_fits, reached_told, reached_faulty)

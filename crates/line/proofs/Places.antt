@@ -12,7 +12,8 @@ use Rattle.rules.specs.Lists.{every}
 use Rattle.rules.specs.Text.{TAB, LF}
 use Rattle.text.specs.Reads.{byte_at, plain, plain_run, number_in, number_at}
 use Rattle.text.specs.declared.Number.{Number}
-use Rattle.line.proofs.PlainBytes.{run_le, run_plain, run_stops, run_next}
+use Rattle.text.proofs.Runs.{run_le}
+use Rattle.line.proofs.PlainBytes.{run_plain, run_stops, run_next}
 
 -- the byte at a place is the first of what is left there
 pub byte_first : (s : List ℕ) (place : ℕ) → get_or (drop place s) 0 LF ≡ byte_at s place

@@ -3,10 +3,9 @@
 use mathlib.Core.Path.{◌≡◌, refl, ap}
 use mathlib.Core.Bool.{Bool, true, false, cond, not}
 use mathlib.Core.List.{List, [], ◌∷◌, ◌++◌}
-use Prim.Native.Nat.{ℕ, suc, ◌≤◌}
-use native.Mathlib.Omega.{arith}
+use Prim.Native.Nat.{ℕ, suc}
 use lib.Dec.{T, eqb}
-use lib.ListN.{length, get_or, take, drop}
+use lib.ListN.{get_or, take, drop}
 use mir.Facts.{T_not, and_yes}
 use borrow.Author.Tests.{ne_eqb}
 use Rattle.rules.specs.Lists.{every}
@@ -53,14 +52,6 @@ allowed-plain (x ∷ p) r h =
     rw (plain-allowed x a.0) (allowed-plain p r a.1)
 
 -- ---- the run that a text starts with
-
-pub run_le : (s : List ℕ) → plain_run s ≤ length s
-run_le [] = omega arith
-run_le (x ∷ s) = go (plain x) (run_le s)
-  where
-    go : (u : Bool) → plain_run s ≤ length s → cond u (suc (plain_run s)) 0 ≤ suc (length s)
-    go true h = omega arith
-    go false h = omega arith
 
 pub run_plain : (s : List ℕ) → T (every plain (take (plain_run s) s))
 run_plain [] = tt

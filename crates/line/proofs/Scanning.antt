@@ -1,21 +1,22 @@
--- The fields of a content, byte by byte: a tab ends one, a byte that is not allowed ends the last. s is the text, i the place reached, x
--- the byte there, y the byte before it, u whether the fields before are filled, `whole` what is told of all. Assumes nothing.
+-- The fields of a content, byte by byte: a tab ends one, a byte that is not allowed ends the last. s is the text, r what is left of it
+-- from a place on, n how many bytes of that are passed over, y the byte before the next one, u whether the fields before are filled,
+-- `whole` what is told of all. Assumes nothing.
 use mathlib.Core.Path.{◌≡◌, refl, sym, ap, ◌∙◌}
-use mathlib.Core.Bool.{Bool, true, false, not, ◌&&◌, and_assoc, true≢false}
+use mathlib.Core.Bool.{Bool, true, false, not, ◌&&◌, and_assoc}
 use mathlib.Core.List.{List, [], ◌∷◌}
-use Prim.Native.Nat.{ℕ, suc, ◌+◌, ◌-◌, ◌<◌}
+use Prim.Native.Nat.{ℕ, suc, ◌+◌, ◌-◌, ◌<◌, ◌≤◌}
 use native.Mathlib.Omega.{arith}
-use lib.Dec.{eqb, ltb}
-use lib.ListN.{length, get_or, take, drop, length-drop}
-use borrow.Author.Rules.{rules}
-use borrow.Author.Tests.{eqb-true, eq-eqb, ne_eqb, ltb-true, ltb-false, not-true, not-false}
+use lib.Dec.{eqb}
+use lib.ListN.{length, get_or, take, drop}
+use borrow.Author.Tests.{eqb-true, eq-eqb, ne_eqb}
+use Rattle.std.proofs.lemmas.List.{get_or_default}
+use Rattle.std.proofs.lemmas.Slice.{between_to_end}
 use Rattle.rules.specs.Lists.{every}
 use Rattle.rules.specs.Text.{TAB, LF, onto, fields, filled}
 use Rattle.text.specs.Reads.{byte_at, plain}
-use Rattle.text.proofs.Places.{left-next, byte_here, byte_none}
+use Rattle.text.proofs.Places.{left-next, left_none}
 use Rattle.line.specs.Parts.{allowed_run, all_filled, fields_from, rest_filled, rest_from, fields_at}
 use Rattle.line.specs.declared.Fields.{Fields}
-use Rattle.line.proofs.Places.{byte_first}
 
 -- ---- the fields behind a byte
 
@@ -72,102 +73,61 @@ judged (x ∷ s) = go (eqb x TAB) (plain x) refl refl (judged s)
 
 -- ---- from the start on
 
-pub fields-start : (s : List ℕ) (start wide i last : ℕ) → byte_at s (start - 1) ≡ TAB → fields_at s wide ≡ fields_at s start
-    → fields_at s i ≡ fields_at s wide → last ≡ byte_at s (i - 1) → rest_from true last i (drop i s) ≡ fields_from true start (drop start s)
-fields-start s start wide i last t e f b =
-    ap (λ (y : ℕ). rest_from true y i (drop i s)) b ∙ f ∙ e
+pub fields-start : (s : List ℕ) (start wide from : ℕ) → byte_at s (start - 1) ≡ TAB → fields_at s wide ≡ fields_at s start
+    → fields_at s from ≡ fields_at s wide → (1 ≤ from) × (from ≤ length s)
+    → rest_from true (get_or s (from - 1) 0) (from + 0) (take (length s - from) (drop from s)) ≡ fields_from s start
+fields-start s start wide from t e f h =
+    (λ i. rest_from true (last i) (place i) (between_to_end s from (length s) (omega arith) i)) ∙ f ∙ e
     ∙ ap (λ (y : ℕ). rest_from true y start (drop start s)) t
     ∙ ap (λ (u : Bool). record { end = start + allowed_run (drop start s); filled = u }) (sym (judged (drop start s)).opened)
+  where
+    last : get_or s (from - 1) 0 ≡ byte_at s (from - 1)
+    last = get_or_default s (from - 1) 0 LF (omega (arith, h.0, h.1))
+
+    place : from + 0 ≡ from
+    place = omega arith
 
 -- ---- one byte more
 
--- what is left starts with the byte there, unless that is given as an LF
-left-first : (s : List ℕ) (i x : ℕ) → x ≡ byte_at s i → (x ≡ LF → ⊥) → drop i s ≡ x ∷ drop (i + 1) s
-left-first s i x b n = go (ltb i (length s)) refl
-  where
-    go : (t : Bool) → ltb i (length s) ≡ t → drop i s ≡ x ∷ drop (i + 1) s
-    go true q =
-        let h = ltb-true i (length s) q in
-        left-next s i h ∙ ap (λ (z : ℕ). z ∷ drop (i + 1) s) (byte_here s i h ∙ sym b)
-    go false q = absurd (n (b ∙ sym (byte_none s i (ltb-false i (length s) q))))
+module _ (r : List ℕ) (from n y : ℕ) (u : Bool) (whole : Fields) (same : rest_from u y (from + n) (drop n r) ≡ whole) where
+  -- where no byte goes on, the last field ends
+  ended : allowed_run (drop n r) ≡ 0 → rest_filled y (drop n r) ≡ not (eqb y TAB)
+      → record { end = from + n; filled = u && not (eqb y TAB) } ≡ whole
+  ended e f = (λ i. record { end = place i; filled = u && sym f i }) ∙ same
+    where
+      place : from + n ≡ from + n + allowed_run (drop n r)
+      place = omega (arith, e)
 
--- a byte that is neither a tab nor plain ends the fields
-run_none : (r : List ℕ) → (get_or r 0 LF ≡ TAB → ⊥) → plain (get_or r 0 LF) ≡ false → allowed_run r ≡ 0
-run_none [] n f = refl
-run_none (x ∷ r) n f = rw (ne_eqb x TAB n, f)
+  pub rest_ended : length r ≤ n → record { end = from + n; filled = u && not (eqb y TAB) } ≡ whole
+  rest_ended h = ended (rw (left_none r n h)) (rw (left_none r n h))
 
-filled_none : (y : ℕ) (r : List ℕ) → (get_or r 0 LF ≡ TAB → ⊥) → plain (get_or r 0 LF) ≡ false → rest_filled y r ≡ not (eqb y TAB)
-filled_none y [] n f = refl
-filled_none y (x ∷ r) n f = rw (ne_eqb x TAB n, f)
+  module _ (h : n < length r) where
+    -- the next byte, and what is left behind it
+    abbrev x : ℕ
+    x = get_or r n 0
 
-module _ (s : List ℕ) (i x : ℕ) (b : x ≡ byte_at s i) where
-  -- what is left behind it
-  abbrev behind : List ℕ
-  behind = drop (i + 1) s
+    abbrev behind : List ℕ
+    behind = drop (n + 1) r
 
-  tab_left : x ≡ TAB → drop i s ≡ x ∷ behind
-  tab_left t = left-first s i x b (λ f. absurd (omega (arith, t, f)))
-
-  plain-left : (p : Bool) → p ≡ plain x → not p ≡ false → drop i s ≡ x ∷ behind
-  plain-left p e f = left-first s i x b (λ l. let k : false ≡ true = sym (e ∙ ap plain l) ∙ not-false p f in absurd (true≢false (sym k)))
-
-  -- a tab and a plain byte stand within the text
-  pub tab_in : x ≡ TAB → i < length s
-  tab_in t = omega (arith, ap length (tab_left t), length-drop i s)
-
-  pub plain_in : (p : Bool) → p ≡ plain x → not p ≡ false → i < length s
-  plain_in p e f = omega (arith, ap length (plain-left p e f), length-drop i s)
-
-  module _ (y : ℕ) (u : Bool) (whole : Fields) (same : rest_from u y i (drop i s) ≡ whole) where
-    -- a tab ends a field
-    pub tab_on : (r v : Bool) → x ≡ TAB → r ≡ (u && not (eqb y TAB)) → v ≡ r → rest_from v x (i + 1) behind ≡ whole
-    tab_on r v t e f = (λ j. record { end = place j; filled = all j }) ∙ same
+    next : (v : Bool) → allowed_run (drop n r) ≡ suc (allowed_run behind) → (v && rest_filled x behind) ≡ (u && rest_filled y (drop n r))
+        → rest_from v x (from + (n + 1)) behind ≡ whole
+    next v e f = (λ i. record { end = place i; filled = f i }) ∙ same
       where
-        run : allowed_run (drop i s) ≡ suc (allowed_run behind)
-        run = ap allowed_run (tab_left t) ∙ rw (eq-eqb x TAB t)
+        place : from + (n + 1) + allowed_run behind ≡ from + n + allowed_run (drop n r)
+        place = omega (arith, e)
 
-        rest : rest_filled y (drop i s) ≡ (not (eqb y TAB) && rest_filled x behind)
-        rest = ap (rest_filled y) (tab_left t) ∙ rw (eq-eqb x TAB t)
-
-        place : i + 1 + allowed_run behind ≡ i + allowed_run (drop i s)
-        place = omega (arith, run)
-
-        all : (v && rest_filled x behind) ≡ (u && rest_filled y (drop i s))
-        all =
-            ap (λ (w : Bool). w && rest_filled x behind) (f ∙ e) ∙ and_assoc u (not (eqb y TAB)) (rest_filled x behind)
-            ∙ ap (λ (w : Bool). u && w) (sym rest)
+    -- a tab ends a field
+    pub tab_next : x ≡ TAB → rest_from (u && not (eqb y TAB)) x (from + (n + 1)) behind ≡ whole
+    tab_next t =
+        next (u && not (eqb y TAB)) (rw (left-next r n h, eq-eqb x TAB t))
+        (rw (left-next r n h, eq-eqb x TAB t) (and_assoc u (not (eqb y TAB)) (rest_filled x behind)))
 
     -- a plain byte goes on with it
-    pub plain-on : (p v : Bool) → (x ≡ TAB → ⊥) → p ≡ plain x → not p ≡ false → v ≡ u → rest_from v x (i + 1) behind ≡ whole
-    plain-on p v n e f g = (λ j. record { end = place j; filled = g j && rest j }) ∙ same
-      where
-        run : allowed_run (drop i s) ≡ suc (allowed_run behind)
-        run = ap allowed_run (plain-left p e f) ∙ rw (ne_eqb x TAB n, ← e, not-false p f)
+    pub plain_next : (x ≡ TAB → ⊥) → plain x ≡ true → rest_from u x (from + (n + 1)) behind ≡ whole
+    plain_next o p = next u (rw (left-next r n h, ne_eqb x TAB o, p)) (rw (left-next r n h, ne_eqb x TAB o, p))
 
-        rest : rest_filled x behind ≡ rest_filled y (drop i s)
-        rest = sym (ap (rest_filled y) (plain-left p e f) ∙ rw (ne_eqb x TAB n, ← e, not-false p f))
+    -- any other byte ends the last
+    pub other_ended : (x ≡ TAB → ⊥) → plain x ≡ false → record { end = from + n; filled = u && not (eqb y TAB) } ≡ whole
+    other_ended o p = ended (rw (left-next r n h, ne_eqb x TAB o, p)) (rw (left-next r n h, ne_eqb x TAB o, p))
 
-        place : i + 1 + allowed_run behind ≡ i + allowed_run (drop i s)
-        place = omega (arith, run)
-
-    -- any other byte, or the end of the text, ends the last
-    pub fields-end : (p v : Bool) → (x ≡ TAB → ⊥) → p ≡ plain x → not p ≡ true → v ≡ (u && not (eqb y TAB))
-        → record { end = i; filled = v } ≡ whole
-    fields-end p v n e f g = (λ j. record { end = place j; filled = all j }) ∙ same
-      where
-        first : get_or (drop i s) 0 LF ≡ x
-        first = byte_first s i ∙ sym b
-
-        other : get_or (drop i s) 0 LF ≡ TAB → ⊥
-        other t = n (sym first ∙ t)
-
-        stops : plain (get_or (drop i s) 0 LF) ≡ false
-        stops = ap plain first ∙ sym e ∙ not-true p f
-
-        place : i ≡ i + allowed_run (drop i s)
-        place = omega (arith, run_none (drop i s) other stops)
-
-        all : v ≡ (u && rest_filled y (drop i s))
-        all = g ∙ ap (λ (w : Bool). u && w) (sym (filled_none y (drop i s) other stops))
-
-pub ruleset scans = (fields-end, rules)
+pub ruleset scans = (fields-start, rest_ended, tab_next, plain_next, other_ended)

@@ -1,19 +1,20 @@
 -- The parts of one line, and how its content's fields are looked at. s is what is left of a text, l a line without its LF, x a byte, y
 -- the byte before it. Assumes nothing.
 use Rattle.std.specs.Prelude.{Bool, true, false, cond, not, ◌&&◌, ◌||◌, List, [], ◌∷◌, ℕ, zero, suc, ◌+◌, ◌-◌, eqb, leb, ltb, length}
-use Rattle.std.specs.Prelude.{take, drop}
-use Rattle.rules.specs.Codes.{accepted, byte_not_allowed, few_tabs}
+use Rattle.std.specs.Prelude.{take, drop, Result, Ok, Err}
 use Rattle.rules.specs.Limits.{CONTENT}
 use Rattle.rules.specs.Lists.{every}
 use Rattle.rules.specs.Line.{number_part, parent_part, content_part}
 use Rattle.rules.specs.Text.{TAB, LF, allowed, count, fields, filled}
+use Rattle.rules.specs.declared.kinds.Fault.{Fault}
+use Rattle.rules.specs.declared.kinds.Fault.TheVariants.{ByteNotAllowed, FewTabs}
 use Rattle.text.specs.Reads.{byte_at, plain, number_in}
 use Rattle.line.specs.declared.Fields.{Fields}
 use Rattle.line.specs.declared.Parts.{Parts}
 
 -- the fault of a line that ends, with the byte x, before its second tab
-abbrev pub short_fault : ℕ → ℕ
-short_fault x = cond (eqb x LF) few_tabs byte_not_allowed
+abbrev pub short_fault : ℕ → Fault
+short_fault x = cond (eqb x LF) FewTabs ByteNotAllowed
 
 -- ---- the content's fields
 
@@ -26,9 +27,9 @@ allowed_run (x ∷ s) = cond (allowed x) (suc (allowed_run s)) 0
 abbrev pub all_filled : List ℕ → Bool
 all_filled s = every filled (fields (take (allowed_run s) s))
 
--- the fields of what is left from a place on, behind others that are filled or not
-abbrev pub fields_from : Bool → ℕ → List ℕ → Fields
-fields_from others place s = record { end = place + allowed_run s; filled = others && all_filled s }
+-- the fields of s from a place on
+abbrev pub fields_from : List ℕ → ℕ → Fields
+fields_from s place = record { end = place + allowed_run (drop place s); filled = all_filled (drop place s) }
 
 -- x may stand behind y in fields that are filled: it is plain, or a tab behind no tab
 abbrev pub good_after : ℕ → ℕ → Bool
@@ -63,18 +64,10 @@ content_fits long filled = leb 1 long && (leb long CONTENT && filled)
 
 -- ---- the parts of a line
 
--- codes 4 and 5
-abbrev pub shape_fault : List ℕ → ℕ
-shape_fault l = cond (not (every allowed l)) byte_not_allowed (cond (ltb (count TAB l) 2) few_tabs accepted)
-
-abbrev pub no_parts : ℕ → Parts
-no_parts code = record { code = code; number = 0; parent = 0; start = 0; end = 0; filled = false }
-
 -- the numbers that the first two parts write, and the content's place
 abbrev pub good_parts : List ℕ → Parts
 good_parts l =
     record {
-      code = accepted;
       number = number_in (number_part l);
       parent = number_in (parent_part l);
       start = length (number_part l) + 1 + length (parent_part l) + 1;
@@ -82,5 +75,7 @@ good_parts l =
       filled = every filled (fields (content_part l));
     }
 
-abbrev pub parts_of : List ℕ → Parts
-parts_of l = cond (eqb (shape_fault l) accepted) (good_parts l) (no_parts (shape_fault l))
+-- the fault of its bytes or tabs, or its parts
+abbrev pub parts_of : List ℕ → Result Parts Fault
+parts_of l =
+    cond (not (every allowed l)) (Err ByteNotAllowed) (cond (ltb (count TAB l) 2) (Err FewTabs) (Ok (good_parts l)))

@@ -6,11 +6,11 @@ use mathlib.Core.Logic.{◌⊎◌, inl, inr}
 use mathlib.Core.Bool.{not, ◌&&◌}
 use mathlib.Core.List.Memᴰ
 use mathlib.Core.List.{List, [], ◌∷◌, ◌++◌, map}
-use Prim.Native.Nat.{ℕ, suc, ◌<◌, ◌≤◌}
-use native.Mathlib.Omega.{arith}
+use Prim.Native.Nat.{ℕ, suc, ◌<◌}
 use lib.Dec.{T, T_not, not_T, eqb}
 use mir.Facts.{and_yes, yes_and}
 use lib.ListN.{length, get_or}
+use Rattle.std.specs.Prelude.{Option, None, Some}
 use Rattle.rules.specs.Lists.{◌∈◌}
 use Rattle.rules.specs.Marks.{TOP, START}
 use Rattle.rules.specs.Line.{Row}
@@ -19,7 +19,6 @@ use Rattle.rules.specs.Facts.{PositionFact, Facts, facts_of, tree_positions, tre
 use Rattle.rules.specs.Merge.{content_edits, content_clashes, merged_tree, lost_edits}
 use Rattle.rules.specs.Demands.{Readable, TreeOf}
 use Rattle.trees.proofs.Lists.{or_right}
-use Rattle.trees.proofs.Marks.{record_high}
 use Rattle.trees.proofs.Disagreeing.{record_of}
 use Rattle.trees.proofs.TableTree.{tree_of_table}
 use Rattle.trees.proofs.SameRows.{tree_number, number_tree}
@@ -28,10 +27,10 @@ use Rattle.facts.specs.Asked.{Asked, has_in, asked}
 use Rattle.facts.proofs.Views.{lists}
 use Rattle.facts.specs.Holds.{Holds}
 use Rattle.facts.proofs.Shown.{shown, number_has, has_number}
-use Rattle.edits.specs.Least.{NONE, least_or}
+use Rattle.edits.specs.Least.{least_or_none}
 use Rattle.edits.specs.Memory.{ask, number_on}
 use Rattle.edits.proofs.Branches.{IsBranch}
-use Rattle.edits.proofs.Best.{PlaceIn, place_in, place-le, min_in, best_of_is}
+use Rattle.edits.proofs.Best.{PlaceIn, AtMost, place_in, place-le, lesser_in, lesser_left, lesser_right, best_of_is}
 use Rattle.edits.proofs.Clashing.{Views}
 use Rattle.edits.proofs.Leasts.{Met}
 use Rattle.contents.specs.Contents.{Told, fresh_content}
@@ -41,7 +40,7 @@ use Rattle.contents.proofs.Losing.{merged_holding, lost_in_lem, lost_out}
 use Rattle.contents.specs.Tables.{SideBySide}
 use Rattle.contents.proofs.Tables.{tell_views, ask_views, ask_met}
 use Rattle.lost.specs.Lost.{lost_position, lost_content, lost_place, lost_on, all_lost}
-use Rattle.lost.proofs.Positions.{lost_parents, position_in, position_met, parents_low}
+use Rattle.lost.proofs.Positions.{lost_parents, position_in, position_met}
 
 module _ (texts lines facts : List (List ℕ)) (old : List Row) (branches : List (List Row))
     (m : SideBySide texts lines facts old branches) (counts : List ℕ)
@@ -109,15 +108,10 @@ module _ (texts lines facts : List (List ℕ)) (old : List Row) (branches : List
   content_has : (k n : ℕ) → T (fresh_content w k n) → T (has_in (get_or lines k []) n)
   content_has k n y = (fresh_out w O Bs (tell_views texts lines facts old branches m) k n y).0
 
-  content-le : (k n : ℕ) → (n ∈ numbers_in f → ⊥) → T (fresh_content w k n) → lost_content w (has_in ls) k n ≤ n
+  content-le : (k n : ℕ) → (n ∈ numbers_in f → ⊥) → T (fresh_content w k n) → AtMost (lost_content w (has_in ls) k n) n
   content-le k n out y =
       place-le (not (has_in ls n) && fresh_content w k n) n
       (yes_and (not (has_in ls n)) (fresh_content w k n) (not_T (has_in ls n) (λ h. out (has_in_lem n h))) y)
-
-  records_low : (n : ℕ) → n ∈ lost_records → n < NONE
-  records_low n i =
-      let x = (gone n i).1 in
-      record_high n (((tell_views texts lines facts old branches m).view x.0 x.1.1).record_has n (content_has x.0 n x.2))
 
   -- ---- both
 
@@ -125,33 +119,34 @@ module _ (texts lines facts : List (List ℕ)) (old : List Row) (branches : List
   parents = lost_parents O Bs (tree_positions TOP START f)
 
   Lost : ℕ → Type 0
-  Lost n = (k : ℕ) × IsBranch k × ((i : ℕ) × (i < suc (get_or counts k 0)) × (lost_on texts lines facts ls fs k i ≤ n))
+  Lost n = (k : ℕ) × IsBranch k × ((i : ℕ) × (i < suc (get_or counts k 0)) × AtMost (lost_on texts lines facts ls fs k i) n)
 
   -- a place that shows at record n of branch k shows on n's line
   on_line_lem : (k n x : ℕ) → IsBranch k → T (lists (q k) n)
-      → (lost_position q merged k n ≤ x) ⊎ (lost_content w (has_in ls) k n ≤ x) → Lost x
+      → AtMost (lost_position q merged k n) x ⊎ AtMost (lost_content w (has_in ls) k n) x → Lost x
   unfolding Lost
   on_line_lem k n x b h s =
       let i = met k b.1 n h in
-      (k, b, (i.0, i.1, subst (λ (z : ℕ). lost_place q w merged k z ≤ x) (sym i.2) (low s)))
+      (k, b, (i.0, i.1, subst (λ (z : ℕ). AtMost (lost_place q w merged k z) x) (sym i.2) (low s)))
     where
-      low : (lost_position q merged k n ≤ x) ⊎ (lost_content w (has_in ls) k n ≤ x) → lost_place q w merged k n ≤ x
-      low (inl e) = omega arith
-      low (inr e) = omega arith
+      low : AtMost (lost_position q merged k n) x ⊎ AtMost (lost_content w (has_in ls) k n) x → AtMost (lost_place q w merged k n) x
+      low (inl e) = lesser_left (lost_position q merged k n) (lost_content w (has_in ls) k n) x e
+      low (inr e) = lesser_right (lost_position q merged k n) (lost_content w (has_in ls) k n) x e
 
   all_in : (k n : ℕ) → IsBranch k → PlaceIn (lost_records ++ parents) (lost_place q w merged k n)
   all_in k n b =
-      min_in (lost_records ++ parents) (lost_position q merged k n) (lost_content w (has_in ls) k n)
-      (right (position_in q O Bs views merged (facts_of t).positions (tree_positions TOP START f) (shown ls fs t holds ok) into back k n b))
-      (left (content_in_lem k n b))
+      lesser_in (lost_records ++ parents) (lost_position q merged k n) (lost_content w (has_in ls) k n)
+      (right (lost_position q merged k n)
+      (position_in q O Bs views merged (facts_of t).positions (tree_positions TOP START f) (shown ls fs t holds ok) into back k n b))
+      (left (lost_content w (has_in ls) k n) (content_in_lem k n b))
     where
-      left : {v : ℕ} → PlaceIn lost_records v → PlaceIn (lost_records ++ parents) v
-      left (inl i) = inl (Memᴰ.append_left parents i)
-      left (inr e) = inr e
+      left : (v : Option ℕ) → PlaceIn lost_records v → PlaceIn (lost_records ++ parents) v
+      left None i = tt
+      left (Some n) i = Memᴰ.append_left parents i
 
-      right : {v : ℕ} → PlaceIn parents v → PlaceIn (lost_records ++ parents) v
-      right (inl i) = inl (Memᴰ.append_right lost_records i)
-      right (inr e) = inr e
+      right : (v : Option ℕ) → PlaceIn parents v → PlaceIn (lost_records ++ parents) v
+      right None i = tt
+      right (Some n) i = Memᴰ.append_right lost_records i
 
   all_met : (n : ℕ) → n ∈ lost_records ++ parents → Lost n
   all_met n i =
@@ -165,19 +160,8 @@ module _ (texts lines facts : List (List ℕ)) (old : List Row) (branches : List
             on_line_lem x.0 x.2.0 n x.1 x.2.1 (inl x.2.2)
       ]
 
-  all_low : (n : ℕ) → n ∈ lost_records ++ parents → n < NONE
-  all_low n i =
-      elim (Memᴰ.append_cases lost_records i) [
-        | inl j ↦ records_low n j
-        | inr j ↦ parents_low q O Bs views merged (facts_of t).positions (tree_positions TOP START f) (shown ls fs t holds ok) into back n j
-      ]
-
-  pub lost_low : (n : ℕ) → n ∈ lost_edits (facts_of old) (map facts_of branches) → n < NONE
-  unfolding lost_edits
-  lost_low = all_low
-
-  pub lost-least : all_lost texts lines facts ls fs counts ≡ least_or (lost_edits (facts_of old) (map facts_of branches))
+  pub lost-least : all_lost texts lines facts ls fs counts ≡ least_or_none (lost_edits (facts_of old) (map facts_of branches))
   unfolding lost_edits Lost
   lost-least =
-      best_of_is (lost_records ++ parents) (lost_on texts lines facts ls fs) (λ k. get_or counts k 0) all_low
+      best_of_is (lost_records ++ parents) (lost_on texts lines facts ls fs) (λ k. get_or counts k 0)
       (λ k i b. all_in k (number_on facts k i) b) all_met

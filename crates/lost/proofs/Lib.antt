@@ -1,5 +1,4 @@
--- What is found lost, and where nothing can be; and that it is what the rules call so.
-pub mod Ways
+-- Where nothing can be lost; and that what is found lost is what the rules call so.
 pub mod Unmarked
 pub mod Positions
 pub mod Finding

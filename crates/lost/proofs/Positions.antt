@@ -5,8 +5,7 @@ use mathlib.Core.Logic.{inl, inr}
 use mathlib.Core.Bool.{not}
 use mathlib.Core.List.Memᴰ
 use mathlib.Core.List.{List, map}
-use Prim.Native.Nat.{ℕ, ◌<◌, ◌≤◌}
-use native.Mathlib.Omega.{arith}
+use Prim.Native.Nat.{ℕ}
 use lib.Dec.{T, T_not, not_T, eqb}
 use mir.Facts.{and_yes, yes_and, no_eqb, eqb_no}
 use Rattle.rules.specs.Lists.{◌∈◌, any}
@@ -18,12 +17,11 @@ use Rattle.trees.proofs.Kept.{has_in_lem, has_out}
 use Rattle.trees.proofs.Disagreeing.{position_tells, parent_of}
 use Rattle.facts.specs.Asked.{Asked}
 use Rattle.facts.proofs.Views.{lists, View, after_low, has_after}
-use Rattle.edits.specs.Least.{NONE, place}
+use Rattle.edits.specs.Least.{place}
 use Rattle.edits.specs.Positions.{fresh_after}
 use Rattle.edits.proofs.Branches.{IsBranch}
 use Rattle.edits.proofs.Clashing.{Views, view_old, facts_at, is_edit, edit_is, fresh-after_edit, edit_after}
-use Rattle.edits.proofs.Best.{PlaceIn, place_in, place-le, min_in}
-use Rattle.edits.proofs.Leasts.{parent_low}
+use Rattle.edits.proofs.Best.{PlaceIn, AtMost, place_in, place-le, lesser_in, lesser_left, lesser_right}
 use Rattle.lost.specs.Lost.{lost_after, lost_position}
 
 -- the parents of the edits that a tree with these facts lacks
@@ -68,31 +66,33 @@ module _ (q : ℕ → Asked) (old : Facts) (branches : List Facts) (w : Views q 
 
   pub position_in : (k n : ℕ) → IsBranch k → PlaceIn parents (lost_position q m k n)
   position_in k n b =
-      min_in parents (place (lost_after q m k ((q k).up n) n) ((q k).up n)) (place (lost_after q m k n START) n)
+      lesser_in parents (place (lost_after q m k ((q k).up n) n) ((q k).up n)) (place (lost_after q m k n START) n)
       (place_in parents (lost_after q m k ((q k).up n) n) ((q k).up n) (after-lost k ((q k).up n) n b))
       (place_in parents (lost_after q m k n START) n (after-lost k n START b))
 
   -- at a record's own follower, or at the start of its list
-  pub position_met : (r : ℕ) → r ∈ parents → (k : ℕ) × IsBranch k × ((n : ℕ) × T (lists (q k) n) × (lost_position q m k n ≤ r))
+  pub position_met : (r : ℕ) → r ∈ parents → (k : ℕ) × IsBranch k × ((n : ℕ) × T (lists (q k) n) × AtMost (lost_position q m k n) r)
   position_met r i = let x = lost_shows r i in (x.0, x.1, at x.0 x.1 x.2.0 x.2.1 x.2.2 x.2.3)
     where
       at : (k : ℕ) → IsBranch k → (a : PositionFact) → a ∈ facts_at old branches k → a.parent ≡ r → T
           (lost_after q m k a.parent a.before)
-          → (n : ℕ) × T (lists (q k) n) × (lost_position q m k n ≤ r)
+          → (n : ℕ) × T (lists (q k) n) × AtMost (lost_position q m k n) r
       at k b a j e t =
           elim ((w.view k b.1).before_ok a j) [
             | inl y ↦ let n = a.before in
                 let x = (w.view k b.1).owner a j n y (inl refl) in
-                let le = place-le (lost_after q m k ((q k).up n) n) ((q k).up n)
-                (subst (λ (z : ℕ). T (lost_after q m k z n)) (sym x.1) t) in
-                (n, or_right (eqb n TOP) ((q k).has n) x.0, omega (arith, le, x.1, e))
-            | inr y ↦ let le = place-le (lost_after q m k a.parent START) a.parent
-                (subst (λ (z : ℕ). T (lost_after q m k a.parent z)) y t) in
-                (a.parent, (w.view k b.1).listed a j, omega (arith, le, e))
+                let u = (q k).up n in
+                let le = place-le (lost_after q m k u n) u (subst (λ (z : ℕ). T (lost_after q m k z n)) (sym x.1) t) in (
+                  n,
+                  or_right (eqb n TOP) ((q k).has n) x.0,
+                  lesser_left (place (lost_after q m k u n) u) (place (lost_after q m k n START) n) r
+                      (subst (AtMost (place (lost_after q m k u n) u)) (x.1 ∙ e) le),
+                )
+            | inr y ↦ let p = a.parent in
+                let le = place-le (lost_after q m k p START) p (subst (λ (z : ℕ). T (lost_after q m k p z)) y t) in (
+                  p,
+                  (w.view k b.1).listed a j,
+                  lesser_right (place (lost_after q m k ((q k).up p) p) ((q k).up p)) (place (lost_after q m k p START) p) r
+                      (subst (AtMost (place (lost_after q m k p START) p)) e le),
+                )
           ]
-
-  pub parents_low : (r : ℕ) → r ∈ parents → r < NONE
-  parents_low r i =
-      let x = lost_shows r i in
-      let v = w.view x.0 x.1.1 in
-      subst (λ (n : ℕ). n < NONE) x.2.2 (parent_low v x.2.0.parent (v.listed x.2.0 x.2.1))

@@ -6,7 +6,6 @@ use mathlib.Core.List.{List, map}
 use Prim.Native.Nat.{ℕ, ◌<◌}
 use native.Mathlib.Omega.{arith}
 use lib.ListN.{length, get_or}
-use borrow.Author.Rules.{rules}
 use Rattle.rules.specs.Line.{Row}
 use Rattle.rules.specs.Tree.{Tree, tree_of}
 use Rattle.rules.specs.Facts.{facts_of}
@@ -17,7 +16,9 @@ use Rattle.rules.specs.declared.answers.Merged.{Merged}
 use Rattle.facts.specs.Memory.{ROOM, TABLES}
 use Rattle.contents.specs.Marks.{Lined}
 use Rattle.contents.proofs.Marking.{lined_tables}
-use Rattle.judge.specs.declared.Judged.{Judged}
+use Rattle.std.specs.Prelude.{Ok, Err}
+use Rattle.rules.specs.Kinds.{clash_code}
+use Rattle.judge.specs.declared.Refusal.{Refusal}
 use Rattle.judge.specs.Judged.{InMemory, Judges}
 use Rattle.pack.specs.Packed.{PackReady, Ends, Packs}
 use Rattle.merge.specs.Merging.{Ready, MergesTables}
@@ -47,43 +48,40 @@ module _ (texts lines facts : List (List ℕ)) (counts : List ℕ) where
   pub ready_lined : Ready texts lines facts counts → Lined lines facts counts
   ready_lined r = lined_tables texts lines facts r.old r.branches r.tables.side counts r.tables.counted
 
-  module _ (ls fs : List ℕ) (z : Judged) (j : Judges texts lines facts counts ls fs z) where
-    -- ---- a clash
+  -- ---- a clash
 
-    pub merge_refused : (table ledger : List ℕ) (code place : ℕ) (m : Merged) → code ≡ z.code → place ≡ z.place → (code ≡ 0 → ⊥)
-        → m ≡ told code 0 place 0 0 → MergesTables texts lines facts counts table ledger m table ledger
-    merge_refused table ledger code place m ec ep h e = record { all = go }
+  pub merge_refused : (ls fs table ledger : List ℕ) (z : Refusal) → Judges texts lines facts counts ls fs (Err z)
+      → MergesTables texts lines facts counts table ledger (told (clash_code z.clash) 0 z.place.number 0 0) table ledger
+  merge_refused ls fs table ledger z j = record { all = go }
+    where
+      go : (old : List Row) (branches : List (List Row)) → InMemory texts lines facts counts old branches
+          → Ends (merge_tables old branches (length table) (length ledger)) table ledger (told (clash_code z.clash) 0 z.place.number 0 0)
+          table ledger
+      go old branches b =
+          let o = outcome_refused old branches (length table) (length ledger) (clash_code z.clash) z.place.number (j.says old branches b) in
+          record {
+            answered = ap answer_of (sym o);
+            tabled = ap (λ (x : Outcome). table_after x table) (sym o);
+            ledgered = ap (λ (x : Outcome). ledger_after x ledger) (sym o);
+          }
+
+  -- ---- a tree
+
+  module _ (ls fs : List ℕ) (count : ℕ) (j : Judges texts lines facts counts ls fs (Ok count)) (few : count < ROOM) where
+    pub pack_ready : Ready texts lines facts counts → PackReady texts ls fs count
+    pack_ready r =
+        let m = j.says r.old r.branches r.tables in
+        record { t = m.t; stored = m.stored; order = m.order; counted = m.counted; few = few }
+
+    pub merge-packed : (table ledger : List ℕ) (m : Merged) (table' ledger' : List ℕ)
+        → Packs texts ls fs count table ledger m table' ledger' → MergesTables texts lines facts counts table ledger m table' ledger'
+    merge-packed table ledger m table' ledger' p = record { all = go }
       where
         go : (old : List Row) (branches : List (List Row)) → InMemory texts lines facts counts old branches
-            → Ends (merge_tables old branches (length table) (length ledger)) table ledger m table ledger
+            → Ends (merge_tables old branches (length table) (length ledger)) table ledger m table' ledger'
         go old branches b =
-            let o =
-            outcome_refused old branches (length table) (length ledger) z.code z.place (j.clash old branches b (λ d. h (ec ∙ d))) in
-            record {
-              answered = e ∙ (λ i. told (ec i) 0 (ep i) 0 0) ∙ ap answer_of (sym o);
-              tabled = ap (λ (x : Outcome). table_after x table) (sym o);
-              ledgered = ap (λ (x : Outcome). ledger_after x ledger) (sym o);
-            }
-
-    -- ---- a tree
-
-    module _ (passed : z.code ≡ 0) (few : z.count < ROOM) where
-      pub pack_ready : Ready texts lines facts counts → PackReady texts ls fs z.count
-      pack_ready r =
-          let m = j.tree r.old r.branches r.tables passed in
-          record { t = m.t; stored = m.stored; order = m.order; counted = m.counted; few = few }
-
-      pub merge-packed : (table ledger : List ℕ) (m : Merged) (table' ledger' : List ℕ)
-          → Packs texts ls fs z.count table ledger m table' ledger' → MergesTables texts lines facts counts table ledger m table' ledger'
-      merge-packed table ledger m table' ledger' p = record { all = go }
-        where
-          go : (old : List Row) (branches : List (List Row)) → InMemory texts lines facts counts old branches
-              → Ends (merge_tables old branches (length table) (length ledger)) table ledger m table' ledger'
-          go old branches b =
-              let w = j.tree old branches b passed in
-              subst (λ (o : Outcome). Ends o table ledger m table' ledger')
-              (ap (λ (es : List Entry). packed (tree_of w.t) es (length table) (length ledger)) w.entries
-              ∙ sym (outcome-merged old branches (length table) (length ledger) (tree_of w.t) w.is))
-              (p.all w.t w.stored w.order w.counted)
-
-pub ruleset merges = (ready_few, ready_lined, merge_refused, pack_ready, merge-packed, rules)
+            let w = j.says old branches b in
+            subst (λ (o : Outcome). Ends o table ledger m table' ledger')
+            (ap (λ (es : List Entry). packed (tree_of w.t) es (length table) (length ledger)) w.entries
+            ∙ sym (outcome-merged old branches (length table) (length ledger) (tree_of w.t) w.is))
+            (p.all w.t w.stored w.order w.counted)

@@ -2,17 +2,17 @@
 // into the two lent buffers.
 #![tactic(auto)]
 
-ghost use Rattle.std.specs.Prelude.{◌≡◌, map, length};
+ghost use Rattle.std.specs.Prelude.{◌≡◌};
 ghost use Rattle.rules.specs.Calls.{told};
-ghost use Rattle.facts.specs.Memory.{TABLES as tables_of_memory};
+ghost use Rattle.facts.specs.Inputs.{texts_of, lines_of, facts_of, counts_of};
 ghost use Rattle.merge.specs.Merging.{Ready, MergesTables};
 
-use contents::marks::mark_branches;
-use facts::{FACTS, NUMBERS, ROOM, TABLES};
+use contents::marks::{Mark, Marked, News, mark_branches};
+use facts::inputs::Inputs;
+use facts::{ROOM, TABLES, Table};
 use judge::judge;
 use pack::pack;
 use rules::answers::Merged;
-use rules::codes::ACCEPTED;
 
 // A refusal without lengths.
 pub fn refused(code: u32, table: u32, place: u32) -> Merged
@@ -27,26 +27,21 @@ pub fn refused(code: u32, table: u32, place: u32) -> Merged
     }
 }
 
-pub fn merge_tables<'a>(
-    texts: &[&'a [u8]],
-    lines: &[[u16; NUMBERS]; TABLES],
-    facts: &[[u32; FACTS]; TABLES],
-    counts: &[usize; TABLES],
-    table: &mut [u8],
-    ledger: &mut [u8],
-) -> Merged
-    requires { Ready (map (λ x. x.now) texts.now) lines.now facts.now counts.now × (length texts.now ≡ tables_of_memory) }
-    ensures { MergesTables (map (λ x. x.now) texts.now) lines.now facts.now counts.now
+pub fn merge_tables(inputs: &Inputs, table: &mut [u8], ledger: &mut [u8]) -> Merged
+    requires { Ready (texts_of inputs.now) (lines_of inputs.now) (facts_of inputs.now) (counts_of inputs.now) }
+    ensures { MergesTables (texts_of inputs.now) (lines_of inputs.now) (facts_of inputs.now) (counts_of inputs.now)
         table.old ledger.old result table.new ledger.new }
 {
-    let mut marks = [[0u8; ROOM]; TABLES];
-    mark_branches(texts, lines, facts, counts, &mut marks);
-    let mut ls = [0u16; NUMBERS];
-    let mut fs = [0u32; FACTS];
-    let judged = judge(texts, lines, facts, &marks, counts, &mut ls, &mut fs);
-    let code = judged.code;
-    if code != ACCEPTED {
-        return refused(code, 0, judged.place);
+    let texts = inputs.texts();
+    let mut marks = [[Mark::NOTHING; ROOM]; TABLES];
+    mark_branches(inputs, &mut marks);
+    let news = News {
+        inputs,
+        marks: &marks,
+    };
+    let mut merged = Table::blank();
+    match judge(Marked { news }, &mut merged) {
+        Ok(count) => pack(&texts[..], &merged, count, table, ledger),
+        Err(why) => refused(u32::from(why.clash), 0, why.place.number),
     }
-    pack(texts, &ls, &fs, judged.count, table, ledger)
 }

@@ -2,17 +2,17 @@
 -- follows whom, `part` where the content of a record lies, ct what it is; ls and fs are the two arrays; a is the innermost level of the
 -- path, r its parent, p its last child, s what follows; q is a parent. Assumes nothing.
 use mathlib.Core.Path.{◌≡◌, refl, sym, ap, ◌∙◌, subst}
-use mathlib.Core.Logic.{◌⊎◌, inl, inr}
 use mathlib.Core.Option.{none}
-use mathlib.Core.Bool.{not}
+use mathlib.Core.Bool.{Bool, true, false, not}
 use mathlib.Core.List.Memᴰ.{head as here}
 use mathlib.Core.List.Memᴰ.{tail as there}
 use mathlib.Core.List.{List, ◌∷◌, ◌++◌}
-use Prim.Native.Nat.{ℕ, zero, suc, ◌<◌, ◌≤◌, min}
+use Prim.Native.Nat.{ℕ, zero, suc, ◌<◌, min}
 use native.Mathlib.Omega.{arith}
 use native.Mathlib.Decide.{ℕ_discrete, dec_le}
 use borrow.Author.Tests.{eq-eqb, ne_eqb}
 use lib.Dec.{T, eqb}
+use Rattle.std.specs.Prelude.{Option, None, Some}
 use Rattle.rules.specs.Lists.{◌∈◌}
 use Rattle.rules.specs.Marks.{TOP, START, END, is_record}
 use Rattle.rules.specs.Text.{last}
@@ -27,13 +27,14 @@ use Rattle.trees.proofs.Marks.{record_high}
 use Rattle.trees.proofs.OneTable.{number_record}
 use Rattle.trees.proofs.Walk.{walk_none}
 use Rattle.facts.specs.Order.{numbers_to}
-use Rattle.edits.specs.Least.{NONE, place}
+use Rattle.edits.specs.Least.{place, lesser}
+use Rattle.edits.proofs.Best.{AtMost, lesser_left, lesser_right}
 use Rattle.merged.specs.Laying.{Steps}
-use Rattle.merged.proofs.Path.{Broken, Level, Spread, parents, step_off, to_come}
+use Rattle.merged.proofs.Path.{Broken, BrokenIn, Level, Spread, parents, step_off, to_come}
 use Rattle.merged.proofs.Spreading.{known_parent, last_child}
 
--- who can have a list is less than NONE
-pub known_low : (t : List Row) → Readable t → (q : ℕ) → q ∈ TOP ∷ numbers t → q < NONE
+-- who can have a list is none of the marks
+pub known_low : (t : List Row) → Readable t → (q : ℕ) → q ∈ TOP ∷ numbers t → q < START
 known_low t ok q (here e) = omega arith
 known_low t ok q (there k) = record_high q (number_record t ok.distinct q k)
 
@@ -44,7 +45,7 @@ walk_ends kept ct zero r p e = refl
 walk_ends kept ct (suc k) r p e = walk_none (follower kept) ct k r p e
 
 module _ {nx : ℕ → ℕ → ℕ} {part : ℕ → Part} {kept : List PositionFact} {known : List ℕ} {ct : ℕ → Content} {ls fs : List ℕ}
-    {a : Level} {path : List Level} {p count broken : ℕ} (st : Steps nx kept known)
+    {a : Level} {path : List Level} {p count : ℕ} {broken : Option ℕ} (st : Steps nx kept known)
     (g : Spread nx part kept known ct ls fs (a ∷ path) p count broken) where
   abbrev t : List Row
   t = g.rows
@@ -56,14 +57,8 @@ module _ {nx : ℕ → ℕ → ℕ} {part : ℕ → Part} {kept : List PositionF
   s = nx r p
 
   -- the least broken list with this one
-  abbrev broken' : ℕ
-  broken' = min broken (place (not (eqb s END)) r)
-
-  whole : s ≡ END → broken' ≡ min broken NONE
-  whole e = rw (eq-eqb s END e)
-
-  stopped : (s ≡ END → ⊥) → broken' ≡ min broken r
-  stopped e = rw (ne_eqb s END e)
+  abbrev broken' : Option ℕ
+  broken' = lesser broken (place (not (eqb s END)) r)
 
   r_broken : (s ≡ END → ⊥) → Broken nx t r
   r_broken e d = e (ap (nx r) (last_child st g) ∙ d)
@@ -73,36 +68,34 @@ module _ {nx : ℕ → ℕ → ℕ} {part : ℕ → Part} {kept : List PositionF
   off_path q e h (here d) = e d
   off_path q e h (there m) = h m
 
-  abbrev Found : ℕ → Type 0
-  Found v = (v ≡ NONE) ⊎ ((v ∈ TOP ∷ numbers t) × (v ∈ parents path → ⊥) × Broken nx t v)
+  -- whoever is told now was told before, or is r
+  was : (b : Option ℕ) → BrokenIn nx t (a ∷ path) b → BrokenIn nx t path b
+  was None w = tt
+  was (Some q) w = (w.0, (λ m. w.1 (there m)), w.2)
 
-  was : Found broken
-  was = elim g.some_broken [ inl e ↦ inl e | inr w ↦ inr (w.0, (λ m. w.1 (there m)), w.2) ]
+  this : (test : Bool) → test ≡ not (eqb s END) → BrokenIn nx t path (place test r)
+  this false e = tt
+  this true e = (known_parent st g, g.once.0, r_broken (λ d. cc (eq-eqb s END d)))
 
-  broken_low : Found broken → broken ≤ NONE
-  broken_low (inl e) = omega arith
-  broken_low (inr w) = omega (arith, known_low t g.readable broken w.0)
-
-  found : Dec (s ≡ END) → Found broken'
-  found (yes e) = let d : min broken NONE ≡ broken = omega (arith, broken_low was) in subst Found (sym (whole e ∙ d)) was
-  found (no e) =
-      elim (dec_le broken r) [
-        | yes h ↦ let d : min broken r ≡ broken = omega arith in subst Found (sym (stopped e ∙ d)) was
-        | no h ↦ let d : min broken r ≡ r = omega arith in
-            subst Found (sym (stopped e ∙ d)) (inr (known_parent st g, g.once.0, r_broken e))
+  either : (x y : Option ℕ) → BrokenIn nx t path x → BrokenIn nx t path y → BrokenIn nx t path (lesser x y)
+  either None y f g = g
+  either (Some x) None f g = f
+  either (Some x) (Some y) f g =
+      elim (dec_le x y) [
+        | yes h ↦ let e : min x y ≡ x = omega arith in subst (λ (q : ℕ). BrokenIn nx t path (Some q)) (sym e) f
+        | no h ↦ let e : min x y ≡ y = omega arith in subst (λ (q : ℕ). BrokenIn nx t path (Some q)) (sym e) g
       ]
 
-  least : (q : ℕ) → q ∈ TOP ∷ numbers t → (q ∈ parents path → ⊥) → Dec (q ≡ r) → Broken nx t q → broken' ≤ q
-  least q k h (no e) m = omega (arith, g.least_broken q k (off_path q e h) m)
+  least : (q : ℕ) → q ∈ TOP ∷ numbers t → (q ∈ parents path → ⊥) → Dec (q ≡ r) → Broken nx t q → AtMost broken' q
+  least q k h (no e) m = lesser_left broken (place (not (eqb s END)) r) q (g.least_broken q k (off_path q e h) m)
   least q k h (yes e) m =
-      omega (
-        arith,
-        stopped (λ z. m (subst (λ (x : ℕ). nx x (last START (child_numbers x t)) ≡ END) (sym e)
-            (ap (nx r) (sym (last_child st g)) ∙ z))),
-      )
+      lesser_right broken (place (not (eqb s END)) r) q (rw (ne_eqb s END stop) (omega arith))
+    where
+      stop : s ≡ END → ⊥
+      stop z = m (subst (λ (x : ℕ). nx x (last START (child_numbers x t)) ≡ END) (sym e) (ap (nx r) (sym (last_child st g)) ∙ z))
 
   pub spread_up : (T (is_record (nx a.parent p)) → ⊥)
-      → Spread nx part kept known ct ls fs path a.parent count (min broken (place (not (eqb (nx a.parent p) END)) a.parent))
+      → Spread nx part kept known ct ls fs path a.parent count (lesser broken (place (not (eqb (nx a.parent p) END)) a.parent))
   spread_up stop =
       record {
         rows = t;
@@ -118,7 +111,7 @@ module _ {nx : ℕ → ℕ → ℕ} {part : ℕ → Part} {kept : List PositionF
         filled = g.filled;
         placed = g.placed;
         within = g.within;
-        some_broken = found (ℕ_discrete s END);
+        some_broken = either broken _ (was broken g.some_broken) (this (not (eqb s END)) refl);
         least_broken = λ q k h. least q k h (ℕ_discrete q r);
       }
     where

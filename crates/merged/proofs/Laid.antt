@@ -10,6 +10,7 @@ use mathlib.Core.List.{List, [], ◌∷◌, append-nil, map}
 use Prim.Native.Nat.{ℕ, ◌<◌}
 use native.Mathlib.Omega.{arith}
 use lib.Dec.{T, T_not, not_T}
+use Rattle.std.specs.Prelude.{Option, None, Some}
 use Rattle.rules.specs.Lists.{◌∈◌, any}
 use Rattle.rules.specs.Marks.{TOP, START, END, is_record}
 use Rattle.rules.specs.Text.{last}
@@ -31,14 +32,13 @@ use Rattle.trees.proofs.TableTree.{tree_of_table}
 use Rattle.facts.specs.Order.{InWrittenOrder, numbers_to}
 use Rattle.facts.proofs.Views.{after_low}
 use Rattle.facts.proofs.Shown.{fact_parent, list_end, shown}
-use Rattle.edits.specs.Least.{NONE, least_or}
-use Rattle.edits.proofs.Best.{least_is}
+use Rattle.edits.specs.Least.{least_or_none}
+use Rattle.edits.proofs.Best.{PlaceIn, least_is}
 use Rattle.merged.specs.Laying.{Steps}
-use Rattle.merged.proofs.Path.{Broken, Spread, step_off, step_on}
-use Rattle.merged.proofs.Ending.{known_low}
+use Rattle.merged.proofs.Path.{Broken, BrokenIn, Spread, step_off, step_on}
 
 module _ {nx : ℕ → ℕ → ℕ} {part : ℕ → Part} {kept : List PositionFact} {known : List ℕ} {ct : ℕ → Content} {ls fs : List ℕ}
-    {p count broken : ℕ} (st : Steps nx kept known) (g : Spread nx part kept known ct ls fs [] p count broken) where
+    {p count : ℕ} {broken : Option ℕ} (st : Steps nx kept known) (g : Spread nx part kept known ct ls fs [] p count broken) where
   abbrev t : List Row
   t = g.rows
 
@@ -126,10 +126,11 @@ module _ {nx : ℕ → ℕ → ℕ} {part : ℕ → Part} {kept : List PositionF
       go a j out (inl e) = absurd (out (step_kept a j e))
       go a j out (inr e) = λ d. out (step_kept a j (ap (nx a.parent) (λ z. (e z).before) ∙ d ∙ (λ z. (sym e z).after)))
 
-  pub least_is_told : broken ≡ least_or (broken_in walked)
+  pub least_is_told : broken ≡ least_or_none (broken_in walked)
   least_is_told =
-      subst (λ (f : Tree). broken ≡ least_or (broken_in f)) (sym tree_is) (least_is (broken_in (tree_of t)) broken some_place
-      (λ q m. let w = broken_out q m in (g.least_broken q w.0 Memᴰ.not-nil w.1, known_low t g.readable q w.0)))
+      subst (λ (f : Tree). broken ≡ least_or_none (broken_in f)) (sym tree_is) (least_is (broken_in (tree_of t)) broken
+      (some_place broken g.some_broken) (λ q m. let w = broken_out q m in g.least_broken q w.0 Memᴰ.not-nil w.1))
     where
-      some_place : (broken ∈ broken_in (tree_of t)) ⊎ (broken ≡ NONE)
-      some_place = elim g.some_broken [ inl e ↦ inr e | inr w ↦ inl (broken_in_lem broken w.0 w.2) ]
+      some_place : (b : Option ℕ) → BrokenIn nx t [] b → PlaceIn (broken_in (tree_of t)) b
+      some_place None w = tt
+      some_place (Some q) w = broken_in_lem q w.0 w.2

@@ -2,35 +2,31 @@
 -- and facts are those of all tables, old and branches their rows; ls and fs are the two arrays of the merged table, with 0 before it is
 -- laid; n is a record, k a table. Assumes nothing.
 use mathlib.Core.Path.{◌≡◌, sym, ap, ◌∙◌, subst}
-use mathlib.Core.Bool.{not}
-use mathlib.Core.List.Memᴰ
 use mathlib.Core.List.{List, [], ◌∷◌, map}
 use Prim.Native.Nat.{ℕ, zero, suc, ◌<◌, ◌≤◌}
 use native.Mathlib.Omega.{arith}
 use lib.Dec.{T}
 use lib.ListN.{get_or, length}
+use Rattle.std.specs.Prelude.{Option}
 use Rattle.rules.specs.Limits.{LINES}
-use Rattle.rules.specs.Lists.{◌∈◌, any, flat}
-use Rattle.rules.specs.Marks.{START, TOP}
+use Rattle.rules.specs.Lists.{◌∈◌, flat}
 use Rattle.rules.specs.Line.{Content, Row}
 use Rattle.rules.specs.Table.{numbers}
-use Rattle.rules.specs.Tree.{Tree, tree_of}
-use Rattle.rules.specs.Facts.{Facts, PositionFact, facts_of, lacking, same_position, tree_positions}
+use Rattle.rules.specs.Tree.{tree_of}
+use Rattle.rules.specs.Facts.{Facts, facts_of}
 use Rattle.rules.specs.Merge.{broken_lists, content_clashes, content_in, kept_contents, kept_positions, merged_tree, neighbour_clashes}
 use Rattle.rules.specs.Merge.{parent_clashes}
-use Rattle.rules.specs.Demands.{Readable}
 use Rattle.rules.specs.declared.answers.Part.{Part}
-use Rattle.trees.proofs.Lists.{flat_in, flat_out, keep_out}
-use Rattle.trees.proofs.Disagreeing.{parent_of}
+use Rattle.trees.proofs.Lists.{flat_in, flat_out}
 use Rattle.trees.proofs.OneTable.{row_number}
 use Rattle.trees.proofs.Accepting.{kept-positions_coherent}
-use Rattle.trees.proofs.TableTree.{table_sound, tree_of_table}
+use Rattle.trees.proofs.TableTree.{table_sound}
 use Rattle.facts.specs.Memory.{TABLES}
 use Rattle.facts.specs.Asked.{has_in}
 use Rattle.facts.specs.Holds.{Holds}
-use Rattle.facts.proofs.Shown.{fact_parent, has_number, number_has}
+use Rattle.facts.proofs.Shown.{has_number, number_has}
 use Rattle.write.specs.Stored.{Lies, Stored, part_in}
-use Rattle.edits.specs.Least.{NONE, least_or}
+use Rattle.edits.specs.Least.{least_or_none}
 use Rattle.edits.specs.Memory.{ask}
 use Rattle.edits.proofs.Branches.{IsBranch}
 use Rattle.edits.proofs.Telling.{at_in, in_at}
@@ -38,17 +34,7 @@ use Rattle.contents.specs.Tables.{SideBySide}
 use Rattle.contents.proofs.Tables.{ask_views, kept_lies, kept-part}
 use Rattle.merged.specs.Laying.{Result, Steps}
 use Rattle.merged.specs.Memory.{kept_next, kept_part}
-use Rattle.merged.proofs.Ending.{known_low}
 use Rattle.merged.proofs.Reaching.{flat_few, steps}
-
--- the lists of a table's tree are those of its records, and the top's
-lists_low : (t : List Row) → Readable t → (f : Tree) → f ≡ tree_of t → (kept : List PositionFact) (n : ℕ)
-    → n ∈ map parent_of (lacking same_position (tree_positions TOP START f) kept) → n < NONE
-lists_low t ok f e kept n i =
-    let w = Memᴰ.of_map parent_of (lacking same_position (tree_positions TOP START f) kept) i in
-    let k = (keep_out (λ (a : PositionFact). not (any (same_position a) kept)) (tree_positions TOP START f) w.1).0 in
-    let j = (tree_of_table t ok).positions_in_lem w.0 (subst (λ (z : Tree). w.0 ∈ tree_positions TOP START z) e k) in
-    subst (λ (q : ℕ). q < NONE) w.2 (known_low t ok w.0.parent (fact_parent t w.0 j))
 
 module _ (texts lines facts : List (List ℕ)) (old : List Row) (branches : List (List Row))
     (m : SideBySide texts lines facts old branches) where
@@ -101,19 +87,15 @@ module _ (texts lines facts : List (List ℕ)) (old : List Row) (branches : List
   abbrev ct : ℕ → Content
   ct = content_in (kept_contents O B)
 
-  module _ (ls fs : List ℕ) (count broken : ℕ)
+  module _ (ls fs : List ℕ) (count : ℕ) (broken : Option ℕ)
       (g : Result (kept_part texts lines facts) (kept_positions O B) branch_numbers ct ls fs count broken) where
     pub tree-merged : merged_tree O B ≡ tree_of g.rows
     unfolding merged_tree
     tree-merged = g.tree
 
-    pub broken_least : broken ≡ least_or (broken_lists O B)
+    pub broken_least : broken ≡ least_or_none (broken_lists O B)
     unfolding merged_tree broken_lists
     broken_least = g.least_broken
-
-    pub broken_low : (n : ℕ) → n ∈ broken_lists O B → n < NONE
-    unfolding broken_lists
-    broken_low n i = lists_low g.rows g.readable (merged_tree O B) tree-merged (kept_positions O B) n i
 
     -- its contents lie in the tables' texts
     pub merged_stored : length texts ≡ TABLES → content_clashes O B ≡ [] → Stored texts ls fs g.rows

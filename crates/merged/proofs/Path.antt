@@ -3,12 +3,12 @@
 -- arrays; r is a parent, p the one before, a a level of the path, `broken` the least parent so far whose list stops before END. Assumes
 -- nothing.
 use mathlib.Core.Path.{◌≡◌, sym, subst}
-use mathlib.Core.Logic.{◌⊎◌}
 use mathlib.Core.Option.{none, some}
 use mathlib.Core.List.{List, [], ◌∷◌, ◌++◌, map}
 use Prim.Native.Nat.{ℕ, ◌+◌, ◌-◌, ◌≤◌}
 use lib.Dec.{T}
 use lib.ListN.{length}
+use Rattle.std.specs.Prelude.{Option, None, Some}
 use Rattle.rules.specs.Lists.{◌∈◌, NoneTwice}
 use Rattle.rules.specs.Marks.{TOP, START, END, is_record}
 use Rattle.rules.specs.Text.{last}
@@ -24,7 +24,7 @@ use Rattle.trees.proofs.LineByLine.{Open}
 use Rattle.trees.proofs.Walk.{step_is, step_none}
 use Rattle.facts.specs.Holds.{Holds, part_at}
 use Rattle.facts.specs.Order.{numbers_to}
-use Rattle.edits.specs.Least.{NONE}
+use Rattle.edits.proofs.Best.{AtMost}
 use Rattle.merged.specs.Laying.{Steps}
 
 -- ---- the walk along the kept facts
@@ -69,10 +69,15 @@ to_come walked p (a ∷ path) = numbers_in (walked a.left a.parent p) ++ to_come
 abbrev pub Broken : (ℕ → ℕ → ℕ) → List Row → ℕ → Type 0
 Broken nx t r = nx r (last START (child_numbers r t)) ≡ END → ⊥
 
+-- a parent off the path whose list is broken, or nobody
+abbrev pub BrokenIn : (ℕ → ℕ → ℕ) → List Row → List Level → Option ℕ → Type 0
+BrokenIn nx t path None = Unit {0}
+BrokenIn nx t path (Some r) = (r ∈ TOP ∷ numbers t) × (r ∈ parents path → ⊥) × Broken nx t r
+
 -- every list so far is a way along the followers, and those that are not on the path go no further; what is laid and what is to come are
 -- the walk, in its order
 pub record Spread (nx : ℕ → ℕ → ℕ) (part : ℕ → Part) (kept : List PositionFact) (known : List ℕ) (ct : ℕ → Content) (ls fs : List ℕ)
-    (path : List Level) (p count broken : ℕ) : Type 0 where
+    (path : List Level) (p count : ℕ) (broken : Option ℕ) : Type 0 where
   pub rows : List Row
   pub holds : Holds ls fs rows
   pub readable : Readable rows
@@ -86,5 +91,5 @@ pub record Spread (nx : ℕ → ℕ → ℕ) (part : ℕ → Part) (kept : List 
   pub filled : (x : Row) → x ∈ rows → x.content ≡ ct x.number
   pub placed : (n : ℕ) → n ∈ numbers rows → part_at ls fs n ≡ part n
   pub within : (n : ℕ) → n ∈ numbers rows → n ∈ known
-  pub some_broken : (broken ≡ NONE) ⊎ ((broken ∈ TOP ∷ numbers rows) × (broken ∈ parents path → ⊥) × Broken nx rows broken)
-  pub least_broken : (r : ℕ) → r ∈ TOP ∷ numbers rows → (r ∈ parents path → ⊥) → Broken nx rows r → broken ≤ r
+  pub some_broken : BrokenIn nx rows path broken
+  pub least_broken : (r : ℕ) → r ∈ TOP ∷ numbers rows → (r ∈ parents path → ⊥) → Broken nx rows r → AtMost broken r

@@ -12,6 +12,7 @@ use Prim.Native.Nat.{ℕ, zero, suc, ◌<◌, ◌≤◌, ◌+◌, ◌-◌}
 use native.Mathlib.Omega.{arith}
 use lib.ListN.{length, length-append, length-map}
 use lib.Dec.{T}
+use Rattle.std.specs.Prelude.{Option, None, Some}
 use Rattle.rules.specs.Lists.{◌∈◌}
 use Rattle.rules.specs.Marks.{TOP, START, END, is_record}
 use Rattle.rules.specs.Text.{last}
@@ -35,9 +36,9 @@ use Rattle.facts.proofs.Shown.{linked, list_end}
 use Rattle.facts.proofs.OneMore.{childless, children_other, known_cases, not_new, number_cases, number_new, number_old, once_more}
 use Rattle.facts.proofs.OneMore.{readable_more}
 use Rattle.facts.proofs.Adding.{Added}
-use Rattle.edits.specs.Least.{NONE}
+use Rattle.edits.proofs.Best.{AtMost}
 use Rattle.merged.specs.Laying.{Steps}
-use Rattle.merged.proofs.Path.{Begun, Broken, Level, Spread, deeper, parents, step_on, to_come}
+use Rattle.merged.proofs.Path.{Begun, Broken, BrokenIn, Level, Spread, deeper, parents, step_on, to_come}
 
 -- ---- lists
 
@@ -52,7 +53,7 @@ one_laid n [] below after rest = ap (λ (l : List ℕ). n ∷ l) (sym (append_as
 one_laid n (m ∷ laid) below after rest = ap (λ (l : List ℕ). m ∷ l) (one_laid n laid below after rest)
 
 module _ {nx : ℕ → ℕ → ℕ} {part : ℕ → Part} {kept : List PositionFact} {known : List ℕ} {ct : ℕ → Content} {ls fs : List ℕ}
-    {a : Level} {path : List Level} {p count broken : ℕ} (st : Steps nx kept known)
+    {a : Level} {path : List Level} {p count : ℕ} {broken : Option ℕ} (st : Steps nx kept known)
     (g : Spread nx part kept known ct ls fs (a ∷ path) p count broken) where
   abbrev t : List Row
   t = g.rows
@@ -242,7 +243,7 @@ module _ {nx : ℕ → ℕ → ℕ} {part : ℕ → Part} {kept : List PositionF
             filled = λ x m. filled x (Memᴰ.append_cases t m);
             placed = λ n m. placed n (number_cases t row n m);
             within = λ n m. within n (number_cases t row n m);
-            some_broken = some_broken g.some_broken;
+            some_broken = some_broken broken g.some_broken;
             least_broken = λ q k. least_broken q (split q k);
           }
         where
@@ -269,16 +270,14 @@ module _ {nx : ℕ → ℕ → ℕ} {part : ℕ → Part} {kept : List PositionF
           within n (inl m) = g.within n m
           within n (inr e) = Memᴰ.cast e follower_known
 
-          off_path : broken ∈ TOP ∷ numbers t → (broken ∈ parents (a ∷ path) → ⊥) → broken ∈ parents path' → ⊥
-          off_path k h (here e) = not-s broken k e
-          off_path k h (there m) = h m
+          off_path : (q : ℕ) → q ∈ TOP ∷ numbers t → (q ∈ parents (a ∷ path) → ⊥) → q ∈ parents path' → ⊥
+          off_path q k h (here e) = not-s q k e
+          off_path q k h (there m) = h m
 
-          some_broken : (broken ≡ NONE) ⊎ ((broken ∈ TOP ∷ numbers t) × (broken ∈ parents (a ∷ path) → ⊥) × Broken nx t broken)
-              → (broken ≡ NONE) ⊎ ((broken ∈ TOP ∷ numbers t') × (broken ∈ parents path' → ⊥) × Broken nx t' broken)
-          some_broken (inl e) = inl e
-          some_broken (inr v) =
-              inr (stay broken v.0, off_path v.0 v.1, λ e. v.2 (sym (end_same broken (λ d. v.1 (here d))) ∙ e))
+          some_broken : (b : Option ℕ) → BrokenIn nx t (a ∷ path) b → BrokenIn nx t' path' b
+          some_broken None v = tt
+          some_broken (Some q) v = (stay q v.0, off_path q v.0 v.1, λ e. v.2 (sym (end_same q (λ d. v.1 (here d))) ∙ e))
 
-          least_broken : (q : ℕ) → (q ∈ TOP ∷ numbers t) ⊎ (q ≡ s) → (q ∈ parents path' → ⊥) → Broken nx t' q → broken ≤ q
+          least_broken : (q : ℕ) → (q ∈ TOP ∷ numbers t) ⊎ (q ≡ s) → (q ∈ parents path' → ⊥) → Broken nx t' q → AtMost broken q
           least_broken q (inr e) h m = absurd (h (here e))
           least_broken q (inl k) h m = g.least_broken q k (λ i. h (there i)) (λ e. m (end_same q (λ d. h (there (here d))) ∙ e))

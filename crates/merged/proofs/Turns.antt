@@ -1,18 +1,18 @@
 -- All lists, turn by turn as the code goes. nx says who follows whom, `part` where the content of a record lies; ls and fs are the two
--- arrays, with 0 at the start and a prime with one line more; r is the innermost parent, p its last child so far, s what follows, y
--- whether that is END, z whether it is laid, v the place of r if its list is broken; `lists` are begun. Assumes nothing.
+-- arrays, with 0 at the start and a prime with one line more; r is the innermost parent, p its last child so far, s what follows; `lists`
+-- are begun. Assumes nothing.
 use mathlib.Core.Path.{◌≡◌, refl, sym, ap, ◌∙◌, subst}
 use mathlib.Core.Logic.{◌⊎◌, inl, inr}
 use mathlib.Core.Bool.{Bool, true, false, not, ◌&&◌}
 use mathlib.Core.List.Memᴰ
 use mathlib.Core.List.Memᴰ.{head as here}
 use mathlib.Core.List.{List, [], ◌∷◌, append-nil}
-use Prim.Native.Nat.{ℕ, ◌<◌, ◌≤◌, ◌+◌, ◌-◌, ◌*◌, min}
+use Prim.Native.Nat.{ℕ, ◌<◌, ◌≤◌, ◌+◌, ◌-◌}
 use native.Mathlib.Omega.{arith}
 use lib.Dec.{T, eqb, ltb, ltb→lt, lt→ltb}
 use lib.ListN.{length}
+use Rattle.std.specs.Prelude.{Option, None}
 use mir.Facts.{and_yes, yes_and}
-use borrow.Author.Rules.{rules}
 use Rattle.rules.specs.Lists.{◌∈◌}
 use Rattle.rules.specs.Marks.{TOP, START, END, is_record}
 use Rattle.rules.specs.Text.{last}
@@ -23,12 +23,11 @@ use Rattle.rules.specs.Merge.{follower, walk}
 use Rattle.rules.specs.Demands.{Readable}
 use Rattle.rules.specs.declared.answers.Part.{Part}
 use Rattle.trees.proofs.Lists.{last_among}
-use Rattle.trees.proofs.Marks.{record_high}
-use Rattle.facts.specs.Memory.{NUMBERS, ROOM, WIDTH, PARENT, LAST, field, add_line, add_facts}
+use Rattle.facts.specs.Memory.{ROOM, PARENT, LAST, field, add_line, add_facts}
 use Rattle.facts.specs.Holds.{Holds}
 use Rattle.facts.proofs.Strings.{strung_parent}
 use Rattle.facts.proofs.Adding.{Added, added}
-use Rattle.edits.specs.Least.{NONE, place}
+use Rattle.edits.specs.Least.{place, lesser}
 use Rattle.merged.specs.Laying.{LaidDown, RecordLaid, Result, Steps}
 use Rattle.merged.proofs.Path.{Level, Spread, deeper, level}
 use Rattle.merged.proofs.Spreading.{follower_new, known_parent, room, row, spread_on}
@@ -42,7 +41,7 @@ Innermost r (a ∷ path) = r ≡ a.parent
 
 -- where the laying down stands
 pub record Stand (nx : ℕ → ℕ → ℕ) (part : ℕ → Part) (kept : List PositionFact) (known : List ℕ) (ct : ℕ → Content) (ls fs : List ℕ)
-    (r p count lists broken : ℕ) : Type 0 where
+    (r p count lists : ℕ) (broken : Option ℕ) : Type 0 where
   pub path : List Level
   pub deep : length path ≡ lists
   pub at : Innermost r path
@@ -51,7 +50,7 @@ pub record Stand (nx : ℕ → ℕ → ℕ) (part : ℕ → Part) (kept : List P
 -- ---- a record more
 
 module _ {nx : ℕ → ℕ → ℕ} {part : ℕ → Part} {kept : List PositionFact} {known : List ℕ} {ct : ℕ → Content} {ls fs : List ℕ}
-    {a : Level} {path : List Level} {p count broken : ℕ} (st : Steps nx kept known)
+    {a : Level} {path : List Level} {p count : ℕ} {broken : Option ℕ} (st : Steps nx kept known)
     (g : Spread nx part kept known ct ls fs (a ∷ path) p count broken) (record_s : T (is_record (nx a.parent p)))
     (s r : ℕ) (ls' fs' : List ℕ) (er : r ≡ a.parent) (es : s ≡ nx a.parent p) (w : RecordLaid part ls fs ls' fs' (count + 1) s r) where
   -- parent and record as the path tells them
@@ -96,8 +95,8 @@ last_in n p ns e ne =
 
 -- the list that r stands in is that of its parent
 parent_next : {nx : ℕ → ℕ → ℕ} {part : ℕ → Part} {kept : List PositionFact} {known : List ℕ} {ct : ℕ → Content} {ls fs : List ℕ}
-    {count broken : ℕ} (r : ℕ) (path : List Level) → Spread nx part kept known ct ls fs path r count broken
-    → r < NONE → Innermost (field ls fs r PARENT) path
+    {count : ℕ} {broken : Option ℕ} (r : ℕ) (path : List Level) → Spread nx part kept known ct ls fs path r count broken
+    → r < START → Innermost (field ls fs r PARENT) path
 parent_next r [] g low = tt
 parent_next {ls = ls} {fs = fs} r (b ∷ path) g low =
     let m : r ∈ child_numbers b.parent g.rows =
@@ -106,17 +105,17 @@ parent_next {ls = ls} {fs = fs} r (b ∷ path) g low =
     (here refl))) r m
 
 module _ {nx : ℕ → ℕ → ℕ} {part : ℕ → Part} {kept : List PositionFact} {known : List ℕ} {ct : ℕ → Content} {ls fs : List ℕ}
-    {a : Level} {path : List Level} {p count broken : ℕ} (st : Steps nx kept known)
+    {a : Level} {path : List Level} {p count : ℕ} {broken : Option ℕ} (st : Steps nx kept known)
     (g : Spread nx part kept known ct ls fs (a ∷ path) p count broken) (s r : ℕ) (er : r ≡ a.parent) (es : s ≡ nx a.parent p)
     (stop : T (is_record s) → ⊥) where
-  abbrev broken' : ℕ
-  broken' = min broken (place (not (eqb s END)) r)
+  abbrev broken' : Option ℕ
+  broken' = lesser broken (place (not (eqb s END)) r)
 
   up : Spread nx part kept known ct ls fs path r count broken'
   up =
       subst (λ (b : ℕ). Spread nx part kept known ct ls fs path b count broken') (sym er)
-      (subst (λ (b : ℕ). Spread nx part kept known ct ls fs path a.parent count b)
-      (λ j. min broken (place (not (eqb (sym es j) END)) (sym er j)))
+      (subst (λ (b : Option ℕ). Spread nx part kept known ct ls fs path a.parent count b)
+      (λ j. lesser broken (place (not (eqb (sym es j) END)) (sym er j)))
       (spread_up st g (λ k. stop (subst (λ (z : ℕ). T (is_record z)) (sym es) k))))
 
   stand_up : Stand nx part kept known ct ls fs (field ls fs r PARENT) r count (length path) broken'
@@ -129,7 +128,8 @@ module _ {nx : ℕ → ℕ → ℕ} {part : ℕ → Part} {kept : List PositionF
 
 -- ---- at the start of each turn
 
-pub record Outer (nx : ℕ → ℕ → ℕ) (part : ℕ → Part) (ls₀ fs₀ ls fs : List ℕ) (r p count lists broken : ℕ) : Type 0 where
+pub record Outer (nx : ℕ → ℕ → ℕ) (part : ℕ → Part) (ls₀ fs₀ ls fs : List ℕ) (r p count lists : ℕ) (broken : Option ℕ)
+    : Type 0 where
   pub in_room : count < ROOM
   pub few_lists : lists ≤ count + 1
   pub stands : (kept : List PositionFact) (known : List ℕ) → Steps nx kept known → Holds ls₀ fs₀ [] → (ct : ℕ → Content)
@@ -138,39 +138,8 @@ pub record Outer (nx : ℕ → ℕ → ℕ) (part : ℕ → Part) (ls₀ fs₀ l
 no_rows : Readable []
 no_rows = record { distinct = record { once = tt; valid = λ x m. absurd (Memᴰ.not-nil m) }; rooted = tt }
 
--- ---- what is asked on the way
-
--- z is the answer whether s is a record; so is there room for one more?
-module _ (s count : ℕ) (z : Bool) (tested : z ≡ is_record s) where
-  pub follows_yes : z ≡ true → ltb count (ROOM - 1) ≡ (is_record s && ltb count (ROOM - 1))
-  follows_yes t = ap (λ (b : Bool). b && ltb count (ROOM - 1)) (sym t ∙ tested)
-
-  pub follows_no : z ≡ false → false ≡ (is_record s && ltb count (ROOM - 1))
-  follows_no t = ap (λ (b : Bool). b && ltb count (ROOM - 1)) (sym t ∙ tested)
-
-pub record_laid : (part : ℕ → Part) (ls fs ls' fs' : List ℕ) (l s r start long : ℕ) → length ls ≡ NUMBERS → length fs ≡ ROOM * WIDTH
-    → (start ≡ (part s).start) × (long ≡ (part s).length) → ls' ≡ add_line ls l s
-    → fs' ≡ add_facts (add_line ls l s) fs l s r (field ls fs r LAST) start long → RecordLaid part ls fs ls' fs' l s r
-record_laid part ls fs ls' fs' l s r start long a b w el ef = record {
-  all_lines = a;
-  all-facts = b;
-  lines_then = el;
-  facts_then = ef ∙ (λ j. add_facts (add_line ls l s) fs l s r (field ls fs r LAST) (w.0 j) (w.1 j));
-}
-
--- z is the answer whether s is a record for which there is room
-module _ (s count : ℕ) (z : Bool) (tested : z ≡ (is_record s && ltb count (ROOM - 1))) (yes_z : z ≡ true) where
-  both : T (is_record s) × T (ltb count (ROOM - 1))
-  both = and_yes (is_record s) (ltb count (ROOM - 1)) (subst T (sym yes_z ∙ tested) tt)
-
-  pub line_fits : count + 1 < ROOM
-  line_fits = omega (arith, ltb→lt count (ROOM - 1) both.1)
-
-  pub number_fits : s < NUMBERS
-  number_fits = omega (arith, record_high s both.0)
-
 module _ (nx : ℕ → ℕ → ℕ) (part : ℕ → Part) (ls₀ fs₀ : List ℕ) where
-  begun_at : Outer nx part ls₀ fs₀ ls₀ fs₀ TOP START 0 1 NONE
+  pub begun_at : Outer nx part ls₀ fs₀ ls₀ fs₀ TOP START 0 1 None
   begun_at = record {
     in_room = omega arith;
     few_lists = omega arith;
@@ -192,93 +161,96 @@ module _ (nx : ℕ → ℕ → ℕ) (part : ℕ → Part) (ls₀ fs₀ : List �
         filled = λ x m. absurd (Memᴰ.not-nil m);
         placed = λ n m. absurd (Memᴰ.not-nil m);
         within = λ n m. absurd (Memᴰ.not-nil m);
-        some_broken = inl refl;
+        some_broken = tt;
         least_broken = λ q k l. absurd (l k);
       };
     };
   }
 
-  pub outset : (r p : ℕ) → r ≡ TOP → p ≡ START → Outer nx part ls₀ fs₀ ls₀ fs₀ r p 0 1 NONE
-  outset r p er ep =
-      subst (λ (k : ℕ). Outer nx part ls₀ fs₀ ls₀ fs₀ k p 0 1 NONE) (sym er)
-      (subst (λ (k : ℕ). Outer nx part ls₀ fs₀ ls₀ fs₀ TOP k 0 1 NONE) (sym ep) begun_at)
+module _ {nx : ℕ → ℕ → ℕ} {part : ℕ → Part} {ls₀ fs₀ ls fs : List ℕ} {r p count lists : ℕ} {broken : Option ℕ}
+    (g : Outer nx part ls₀ fs₀ ls fs r p count lists broken) where
+  -- ---- one turn
 
-  module _ (ls fs : List ℕ) (r p count lists broken : ℕ) (g : Outer nx part ls₀ fs₀ ls fs r p count lists broken) where
-    module _ (s : ℕ) (z : Bool) (begun : 0 < lists) (es : s ≡ nx r p) (tested : z ≡ (is_record s && ltb count (ROOM - 1))) where
-      pub turn_down : (ls' fs' : List ℕ) (p' : ℕ) → z ≡ true → RecordLaid part ls fs ls' fs' (count + 1) s r → p' ≡ START
-          → Outer nx part ls₀ fs₀ ls' fs' s p' (count + 1) (lists + 1) broken
-      turn_down ls' fs' p' t w ep =
-          subst (λ (k : ℕ). Outer nx part ls₀ fs₀ ls' fs' s k (count + 1) (lists + 1) broken) (sym ep) record {
-            in_room = line_fits s count z tested t;
-            few_lists = omega (arith, g.few_lists);
-            stands = λ kept known st h ct.
-                let d = g.stands kept known st h ct in go kept known ct st d.path d.deep d.at d.spread;
-          }
-        where
-          go : (kept : List PositionFact) (known : List ℕ) (ct : ℕ → Content) → Steps nx kept known → (path : List Level)
-              → length path ≡ lists → Innermost r path → Spread nx part kept known ct ls fs path p count broken
-              → Stand nx part kept known ct ls' fs' s START (count + 1) (lists + 1) broken
-          go kept known ct st [] deep at f = absurd (omega arith)
-          go kept known ct st (a ∷ path) deep at f =
-              let e : s ≡ nx a.parent p = es ∙ ap (λ (q : ℕ). nx q p) at in
-              let i : T (is_record (nx a.parent p)) = subst (λ (n : ℕ). T (is_record n)) e (both s count z tested t).0 in
-              let many : length path + 1 + 1 ≡ lists + 1 = omega arith in
-              subst (λ (m : ℕ). Stand nx part kept known ct ls' fs' s START (count + 1) m broken) many
-              (stand_on st f i s r ls' fs' at e w)
+  module _ (s : ℕ) (begun : 0 < lists) (es : s ≡ nx r p) where
+    -- s is a record for which there is room
+    abbrev Next : Bool
+    Next = is_record s && ltb count (ROOM - 1)
 
-      pub turn_up : (v broken' r' : ℕ) (y : Bool) → z ≡ false → y ≡ eqb s END → v ≡ place (not y) r → broken' ≡ min broken v
-          → r' ≡ field ls fs r PARENT → Outer nx part ls₀ fs₀ ls fs r' r count (lists - 1) broken'
-      turn_up v broken' r' y t ey ev eb er =
-          record {
-            in_room = g.in_room;
-            few_lists = omega (arith, g.few_lists);
-            stands = λ kept known st h ct.
-                let d = g.stands kept known st h ct in go kept known ct st d.path d.deep d.at d.spread;
-          }
-        where
-          -- the room does not end before the lists do
-          full : (kept : List PositionFact) (known : List ℕ) (ct : ℕ → Content) → Steps nx kept known → (a : Level) (path : List Level)
-              → Spread nx part kept known ct ls fs (a ∷ path) p count broken → s ≡ nx a.parent p → T (is_record s) → ⊥
-          full kept known ct st a path f e i =
-              let more = room st f (subst (λ (n : ℕ). T (is_record n)) e i) in
-              subst T (sym tested ∙ t) (yes_and (is_record s) (ltb count (ROOM - 1)) i (lt→ltb count (ROOM - 1) (omega arith)))
-
-          go : (kept : List PositionFact) (known : List ℕ) (ct : ℕ → Content) → Steps nx kept known → (path : List Level)
-              → length path ≡ lists → Innermost r path → Spread nx part kept known ct ls fs path p count broken
-              → Stand nx part kept known ct ls fs r' r count (lists - 1) broken'
-          go kept known ct st [] deep at f = absurd (omega arith)
-          go kept known ct st (a ∷ path) deep at f =
-              let e : s ≡ nx a.parent p = es ∙ ap (λ (q : ℕ). nx q p) at in
-              let many : length path ≡ lists - 1 = omega arith in
-              let b : min broken (place (not (eqb s END)) r) ≡ broken' =
-              sym (eb ∙ ap (min broken) (ev ∙ ap (λ (a : Bool). place (not a) r) ey)) in
-              subst (λ (m : ℕ). Stand nx part kept known ct ls fs r' r count m broken') many
-              (subst (λ (m : ℕ). Stand nx part kept known ct ls fs r' r count (length path) m) b
-              (subst (λ (q : ℕ). Stand nx part kept known ct ls fs q r count (length path) (min broken (place (not (eqb s END)) r)))
-              (sym er) (stand_up st f s r at e (λ i. full kept known ct st a path f e i))))
-
-    pub all_laid : lists ≤ 0 → LaidDown nx part ls₀ fs₀ ls fs count broken
-    all_laid over =
+    pub turn_down : (ls' fs' : List ℕ) → true ≡ Next → RecordLaid part ls fs ls' fs' (count + 1) s r
+        → Outer nx part ls₀ fs₀ ls' fs' s START (count + 1) (lists + 1) broken
+    turn_down ls' fs' t w =
         record {
-          all = λ kept known st h ct.
-              let d = g.stands kept known st h ct in go kept known ct st d.path d.deep d.spread;
+          in_room = omega (arith, ltb→lt count (ROOM - 1) both.1);
+          few_lists = omega (arith, g.few_lists);
+          stands = λ kept known st h ct.
+              let d = g.stands kept known st h ct in go kept known ct st d.path d.deep d.at d.spread;
         }
       where
-        go : (kept : List PositionFact) (known : List ℕ) (ct : ℕ → Content) → Steps nx kept known → (path : List Level)
-            → length path ≡ lists → Spread nx part kept known ct ls fs path p count broken
-            → Result part kept known ct ls fs count broken
-        go kept known ct st (a ∷ path) deep f = absurd (omega arith)
-        go kept known ct st [] deep f = record {
-          rows = f.rows;
-          holds = f.holds;
-          readable = f.readable;
-          size = f.size;
-          order = in_order_lem st f;
-          filled = f.filled;
-          placed = f.placed;
-          within = f.within;
-          tree = tree_is st f;
-          least_broken = least_is_told st f;
-        }
+        both : T (is_record s) × T (ltb count (ROOM - 1))
+        both = and_yes (is_record s) (ltb count (ROOM - 1)) (subst T t tt)
 
-pub ruleset turns = (follows_yes, follows_no, record_laid, line_fits, number_fits, outset, turn_down, turn_up, all_laid, rules)
+        go : (kept : List PositionFact) (known : List ℕ) (ct : ℕ → Content) → Steps nx kept known → (path : List Level)
+            → length path ≡ lists → Innermost r path → Spread nx part kept known ct ls fs path p count broken
+            → Stand nx part kept known ct ls' fs' s START (count + 1) (lists + 1) broken
+        go kept known ct st [] deep at f = absurd (omega arith)
+        go kept known ct st (a ∷ path) deep at f =
+            let e : s ≡ nx a.parent p = es ∙ ap (λ (q : ℕ). nx q p) at in
+            let i : T (is_record (nx a.parent p)) = subst (λ (n : ℕ). T (is_record n)) e both.0 in
+            let many : length path + 1 + 1 ≡ lists + 1 = omega arith in
+            subst (λ (m : ℕ). Stand nx part kept known ct ls' fs' s START (count + 1) m broken) many
+            (stand_on st f i s r ls' fs' at e w)
+
+    pub turn_up : (r' : ℕ) (broken' : Option ℕ) → false ≡ Next → lesser broken (place (not (eqb s END)) r) ≡ broken'
+        → field ls fs r PARENT ≡ r' → Outer nx part ls₀ fs₀ ls fs r' r count (lists - 1) broken'
+    turn_up r' broken' t eb er =
+        record {
+          in_room = g.in_room;
+          few_lists = omega (arith, g.few_lists);
+          stands = λ kept known st h ct.
+              let d = g.stands kept known st h ct in go kept known ct st d.path d.deep d.at d.spread;
+        }
+      where
+        -- the room does not end before the lists do
+        full : (kept : List PositionFact) (known : List ℕ) (ct : ℕ → Content) → Steps nx kept known → (a : Level) (path : List Level)
+            → Spread nx part kept known ct ls fs (a ∷ path) p count broken → s ≡ nx a.parent p → T (is_record s) → ⊥
+        full kept known ct st a path f e i =
+            let more = room st f (subst (λ (n : ℕ). T (is_record n)) e i) in
+            subst T (sym t) (yes_and (is_record s) (ltb count (ROOM - 1)) i (lt→ltb count (ROOM - 1) (omega arith)))
+
+        go : (kept : List PositionFact) (known : List ℕ) (ct : ℕ → Content) → Steps nx kept known → (path : List Level)
+            → length path ≡ lists → Innermost r path → Spread nx part kept known ct ls fs path p count broken
+            → Stand nx part kept known ct ls fs r' r count (lists - 1) broken'
+        go kept known ct st [] deep at f = absurd (omega arith)
+        go kept known ct st (a ∷ path) deep at f =
+            let e : s ≡ nx a.parent p = es ∙ ap (λ (q : ℕ). nx q p) at in
+            let many : length path ≡ lists - 1 = omega arith in
+            subst (λ (m : ℕ). Stand nx part kept known ct ls fs r' r count m broken') many
+            (subst (λ (b : Option ℕ). Stand nx part kept known ct ls fs r' r count (length path) b) eb
+            (subst (λ (q : ℕ). Stand nx part kept known ct ls fs q r count (length path) (lesser broken (place (not (eqb s END)) r)))
+            er (stand_up st f s r at e (λ i. full kept known ct st a path f e i))))
+
+  -- ---- no list is left
+
+  pub all_laid : lists ≤ 0 → LaidDown nx part ls₀ fs₀ ls fs count broken
+  all_laid over =
+      record {
+        all = λ kept known st h ct.
+            let d = g.stands kept known st h ct in go kept known ct st d.path d.deep d.spread;
+      }
+    where
+      go : (kept : List PositionFact) (known : List ℕ) (ct : ℕ → Content) → Steps nx kept known → (path : List Level)
+          → length path ≡ lists → Spread nx part kept known ct ls fs path p count broken
+          → Result part kept known ct ls fs count broken
+      go kept known ct st (a ∷ path) deep f = absurd (omega arith)
+      go kept known ct st [] deep f = record {
+        rows = f.rows;
+        holds = f.holds;
+        readable = f.readable;
+        size = f.size;
+        order = in_order_lem st f;
+        filled = f.filled;
+        placed = f.placed;
+        within = f.within;
+        tree = tree_is st f;
+        least_broken = least_is_told st f;
+      }

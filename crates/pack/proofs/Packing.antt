@@ -8,14 +8,12 @@ use Prim.Native.Nat.{ℕ}
 use native.Mathlib.Omega.{arith}
 use lib.Dec.{eqb}
 use lib.ListN.{length}
-use borrow.Author.Rules.{rules}
 use borrow.Author.Tests.{eq-eqb, ne_eqb}
 use Rattle.rules.specs.Codes.{accepted}
 use Rattle.rules.specs.Line.{Row}
 use Rattle.rules.specs.Tree.{tree_of}
 use Rattle.rules.specs.Written.{tidied, over}
 use Rattle.rules.specs.Ledger.{Entry, ledger}
-use Rattle.rules.specs.declared.answers.Merged.{Merged}
 use Rattle.trees.proofs.SameRows.{rows-count}
 use Rattle.facts.specs.Order.{InWrittenOrder}
 use Rattle.write.specs.Stored.{Stored}
@@ -56,23 +54,22 @@ module _ (F : List ℕ) (count : ℕ) (s : Sums) (q : s ≡ sums_of F count) (ta
           e
           ∙ (λ i. room_code ((n ∙ sym (rows-count t h.readable)) i) (table-long i) (ledger-long i) (length table) (length book))
 
-      answer_is : (z : Merged) → z ≡ room_told code s.table s.ledger
-          → z ≡ room_told (code_of (tree_of t) (entries_in L F t) (length table) (length book)) (length (tidied t))
+      answer_is : room_told code s.table s.ledger
+          ≡ room_told (code_of (tree_of t) (entries_in L F t) (length table) (length book)) (length (tidied t))
           (length (ledger (entries_in L F t)))
-      answer_is z d = d ∙ (λ i. room_told (code_is i) (table-long i) (ledger-long i))
+      answer_is = λ i. room_told (code_is i) (table-long i) (ledger-long i)
 
       code-test : (b : Bool) → eqb code accepted ≡ b
           → eqb (code_of (tree_of t) (entries_in L F t) (length table) (length book)) accepted ≡ b
       code-test b w = ap (λ (k : ℕ). eqb k accepted) (sym code_is) ∙ w
 
-    pub pack_refused : (z : Merged) → (code ≡ accepted → ⊥) → z ≡ room_told code s.table s.ledger
-        → Packs T L F count table book z table book
-    pack_refused z f d = record {
+    pub pack_refused : (code ≡ accepted → ⊥) → Packs T L F count table book (room_told code s.table s.ledger) table book
+    pack_refused f = record {
       all = λ t h o n.
           let es = entries_in L F t in
           let no_test = code-test t h o n _ (ne_eqb code accepted f) in
           record {
-            answered = answer_is t h o n z d ∙ sym (room_answer (tree_of t) es (length table) (length book));
+            answered = answer_is t h o n ∙ sym (room_answer (tree_of t) es (length table) (length book));
             tabled =
                 sym (room_tabled (tree_of t) es (length table) (length book) table
                 ∙ ap (λ (b : Bool). cond b (over (tidied t) table) table) no_test);
@@ -91,15 +88,14 @@ module _ (F : List ℕ) (count : ℕ) (s : Sums) (q : s ≡ sums_of F count) (ta
         fits = omega (arith, table-long w.t w.stored w.order w.counted, (fits fine).table);
       }
 
-      pub pack_done : (z : Merged) (table' book' : List ℕ) → TableWritten T L F table table'
-          → book' ≡ over (ledger (entries_to F count)) book → z ≡ room_told code s.table s.ledger
-          → Packs T L F count table book z table' book'
-      pack_done z table' book' v w d = record {
+      pub pack_done : {table' book' : List ℕ} → TableWritten T L F table table' → book' ≡ over (ledger (entries_to F count)) book
+          → Packs T L F count table book (room_told code s.table s.ledger) table' book'
+      pack_done v w = record {
         all = λ t h o n.
             let es = entries_in L F t in
             let test = code-test t h o n _ (eq-eqb code accepted fine) in
             record {
-              answered = answer_is t h o n z d ∙ sym (room_answer (tree_of t) es (length table) (length book));
+              answered = answer_is t h o n ∙ sym (room_answer (tree_of t) es (length table) (length book));
               tabled =
                   v.all t h
                   ∙ sym (room_tabled (tree_of t) es (length table) (length book) table
@@ -110,5 +106,3 @@ module _ (F : List ℕ) (count : ℕ) (s : Sums) (q : s ≡ sums_of F count) (ta
                   ∙ ap (λ (b : Bool). cond b (over (ledger es) book) book) test);
             };
       }
-
-pub ruleset packings = (pack_refused, pack-table, pack-ledger, pack_done, rules)

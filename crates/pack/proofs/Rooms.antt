@@ -1,43 +1,28 @@
--- The code and the answer, way by way, as the code goes; and that they and the buffers are those of the definitions. n is how many records
--- there are, a and b are the two lengths, ra and rb the room of the two buffers, f is a tree, es are the ledger's entries. Assumes nothing.
+-- What the code of an end says, and that the answer and the buffers are those of the definitions. n is how many records there are, a and b
+-- are the two lengths, ra and rb the room of the two buffers, f is a tree, es are the ledger's entries. Assumes nothing.
 use mathlib.Core.Path.{◌≡◌, refl}
 use mathlib.Core.Bool.{Bool, true, false, cond, ◌||◌}
 use mathlib.Core.List.{List}
-use Prim.Native.Nat.{ℕ, ◌<◌, ◌≤◌}
+use Prim.Native.Nat.{ℕ, ◌≤◌}
 use native.Mathlib.Omega.{arith}
 use lib.Dec.{eqb, ltb}
 use lib.ListN.{length}
-use borrow.Author.Rules.{rules}
-use borrow.Author.Tests.{eq-eqb, ne_eqb, lt-ltb, le-ltb, ltb-false}
+use borrow.Author.Tests.{ltb-false}
 use Rattle.rules.specs.Limits.{LINES, BYTES}
 use Rattle.rules.specs.Codes.{accepted, merged_too_large, table_too_short, ledger_too_short}
 use Rattle.rules.specs.Marks.{TOP}
 use Rattle.rules.specs.Tree.{Tree, rows}
 use Rattle.rules.specs.Written.{written_tree, over}
 use Rattle.rules.specs.Ledger.{Entry, ledger}
-use Rattle.rules.specs.Calls.{Outcome, too_large, no_room, done, over_limits, packed, told, answer_of, table_after, ledger_after}
+use Rattle.rules.specs.Calls.{Outcome, too_large, no_room, done, over_limits, packed, answer_of, table_after, ledger_after}
+use Rattle.rules.specs.Kinds.{shortage_code}
+use Rattle.rules.specs.declared.kinds.Shortage.{Shortage}
+use Rattle.rules.specs.declared.kinds.Shortage.TheVariants.{Limits, Table, Ledger}
 use Rattle.pack.specs.Packed.{room_code, room_told}
 
 -- ---- the code
 
 module _ (n a b ra rb : ℕ) where
-  pub room-lines : LINES < n → merged_too_large ≡ room_code n a b ra rb
-  room-lines h = rw (lt-ltb LINES n h)
-
-  module _ (h : n ≤ LINES) where
-    pub room-bytes : BYTES < a → merged_too_large ≡ room_code n a b ra rb
-    room-bytes g = rw (le-ltb LINES n h, lt-ltb BYTES a g)
-
-    module _ (g : a ≤ BYTES) where
-      pub room-table : ra < a → table_too_short ≡ room_code n a b ra rb
-      room-table t = rw (le-ltb LINES n h, le-ltb BYTES a g, lt-ltb ra a t)
-
-      pub room-ledger : a ≤ ra → rb < b → ledger_too_short ≡ room_code n a b ra rb
-      room-ledger t l = rw (le-ltb LINES n h, le-ltb BYTES a g, le-ltb ra a t, lt-ltb rb b l)
-
-      pub room_both : a ≤ ra → b ≤ rb → accepted ≡ room_code n a b ra rb
-      room_both t l = rw (le-ltb LINES n h, le-ltb BYTES a g, le-ltb ra a t, le-ltb rb b l)
-
   -- code 0: all is within limits and room
   pub record Fitting : Type 0 where
     pub few : n ≤ LINES
@@ -57,17 +42,11 @@ module _ (n a b ra rb : ℕ) where
       go false false false false i j k l z =
           record { few = ltb-false LINES n i; short = ltb-false BYTES a j; table = ltb-false ra a k; ledger = ltb-false rb b l }
 
-pub ruleset rooms = (room-lines, room-bytes, room-table, room-ledger, room_both, rules)
-
--- ---- the answer
-
-pub told_large : (code a b : ℕ) → code ≡ merged_too_large → told code 0 0 0 0 ≡ room_told code a b
-told_large code a b e = rw (eq-eqb code merged_too_large e)
-
-pub told_lengths : (code a b : ℕ) → (code ≡ merged_too_large → ⊥) → told code 0 0 a b ≡ room_told code a b
-told_lengths code a b f = rw (ne_eqb code merged_too_large f)
-
-pub ruleset answers = (told_large, told_lengths, rules)
+-- what is lacked has a code of its own
+pub lacks : (shortage : Shortage) → shortage_code shortage ≡ accepted → ⊥
+lacks Limits e = omega arith
+lacks Table e = omega arith
+lacks Ledger e = omega arith
 
 -- ---- as the definitions have them
 

@@ -1,13 +1,15 @@
 -- How a merge ends once the merged table lies in memory: what is asked of memory, and what the answer and the two buffers tell. texts hold
 -- the contents, ls and fs are the two arrays, t is the merged table's rows, count how many there are; a prime marks a buffer afterwards.
 -- Assumes nothing.
-use Rattle.std.specs.Prelude.{◌≡◌, cond, ◌||◌, List, ℕ, ◌<◌, eqb, ltb, length}
+use Rattle.std.specs.Prelude.{◌≡◌, cond, ◌||◌, List, ℕ, ◌<◌, eqb, ltb, length, Result, Ok, Err}
 use Rattle.rules.specs.Limits.{LINES, BYTES}
 use Rattle.rules.specs.Codes.{accepted, merged_too_large, table_too_short, ledger_too_short}
 use Rattle.rules.specs.Line.{Row}
 use Rattle.rules.specs.Tree.{tree_of}
 use Rattle.rules.specs.Calls.{Outcome, packed, told, answer_of, table_after, ledger_after}
+use Rattle.rules.specs.Kinds.{shortage_code}
 use Rattle.rules.specs.declared.answers.Merged.{Merged}
+use Rattle.rules.specs.declared.kinds.Shortage.{Shortage}
 use Rattle.facts.specs.Memory.{ROOM}
 use Rattle.facts.specs.Order.{InWrittenOrder}
 use Rattle.write.specs.Stored.{Stored}
@@ -21,6 +23,11 @@ room_code records table_length ledger_length table_room ledger_room =
     cond (ltb LINES records || ltb BYTES table_length) merged_too_large
     (cond (ltb table_room table_length) table_too_short
     (cond (ltb ledger_room ledger_length) ledger_too_short accepted))
+
+-- that of an end
+abbrev pub end_code : Result (Unit {0}) Shortage → ℕ
+end_code (Ok _) = accepted
+end_code (Err shortage) = shortage_code shortage
 
 -- "Lengths are 0 on refusal, but 31 and 32 give both lengths needed."
 abbrev pub room_told : ℕ → ℕ → ℕ → Merged

@@ -2,98 +2,93 @@
 // the writing of both. No byte is written before all three are known.
 #![tactic(auto)]
 
-ghost use Rattle.std.specs.Prelude.{◌≡◌, map, length};
-ghost use Rattle.rules.specs.Written.{over};
-ghost use Rattle.rules.specs.Ledger.{ledger as ledger_of};
-ghost use Rattle.write.specs.Writing.{TableReady, TableWritten};
-ghost use Rattle.ledger.specs.Entries.{entries_to, LedgerReady};
-ghost use Rattle.pack.specs.Packed.{room_code, room_told, PackReady, Packs};
+ghost use Rattle.std.specs.Prelude.{◌≡◌, map};
+ghost use Rattle.rules.specs.Calls.{told};
+ghost use Rattle.facts.specs.Table.{lines_in, facts_in};
+ghost use Rattle.ledger.specs.Sums.{sums_of};
+ghost use Rattle.pack.specs.Packed.{room_code, room_told, end_code, PackReady, Packs};
 
-use facts::{FACTS, NUMBERS};
-use ledger::{sum_lines, write_ledger};
+use facts::Table;
+use ledger::{Sums, sum_lines, write_ledger};
 use rules::answers::Merged;
-use rules::codes::{ACCEPTED, LEDGER_TOO_SHORT, MERGED_TOO_LARGE, TABLE_TOO_SHORT};
+use rules::codes::{ACCEPTED, MERGED_TOO_LARGE};
+use rules::kinds::Shortage;
 use rules::limits::{BYTES, LINES};
 use write::write_table;
 
-// 26, 31 or 32, or 0: for so many records, the two lengths, and the room of the two buffers.
-fn room(count: usize, table: usize, ledger: usize, table_room: usize, ledger_room: usize) -> u32
-    ensures { result ≡ room_code count table ledger table_room ledger_room }
+// Whether so many records and their sums are within the limits and the room of the two buffers.
+fn room(count: usize, s: Sums, table_room: usize, ledger_room: usize) -> Result<(), Shortage>
+    ensures { end_code result ≡ room_code count s.table s.ledger table_room ledger_room }
 {
-    if LINES < count {
-        return MERGED_TOO_LARGE;
+    if LINES < count || BYTES < s.table {
+        return Err(Shortage::Limits);
     }
-    if BYTES < table {
-        return MERGED_TOO_LARGE;
+    if table_room < s.table {
+        return Err(Shortage::Table);
     }
-    if table_room < table {
-        return TABLE_TOO_SHORT;
+    if ledger_room < s.ledger {
+        return Err(Shortage::Ledger);
     }
-    if ledger_room < ledger {
-        return LEDGER_TOO_SHORT;
-    }
-    ACCEPTED
+    Ok(())
 }
 
-// The answer with this code: the two lengths stand in it, but not on 26.
-fn answer(code: u32, table: usize, ledger: usize) -> Merged
-    ensures { result ≡ room_told code table ledger }
+// Writes the table and its ledger, if there is room for both.
+fn fill(
+    texts: &[&[u8]],
+    table: &Table,
+    count: usize,
+    s: Sums,
+    out_table: &mut [u8],
+    ledger: &mut [u8],
+) -> Result<(), Shortage>
+    requires { PackReady (map (λ x. x.now) texts.now) (lines_in table.now) (facts_in table.now) count
+        × (s ≡ sums_of (facts_in table.now) count) }
+    ensures { Packs (map (λ x. x.now) texts.now) (lines_in table.now) (facts_in table.now) count
+        out_table.old ledger.old (room_told (end_code result) s.table s.ledger) out_table.new ledger.new }
 {
-    if code == MERGED_TOO_LARGE {
-        return Merged {
-            code,
-            table: 0,
-            place: 0,
-            table_length: 0,
-            ledger_length: 0,
-        };
-    }
+    room(count, s, out_table.len(), ledger.len())?;
+    write_table(texts, table, out_table, count);
+    write_ledger(table, ledger, count, s.bytes);
+    Ok(())
+}
+
+// The answer of a merge that names no table and no place.
+fn told(code: u32, table_length: usize, ledger_length: usize) -> Merged
+    ensures { result ≡ told code 0 0 table_length ledger_length }
+{
     Merged {
         code,
         table: 0,
         place: 0,
-        table_length: table,
-        ledger_length: ledger,
+        table_length,
+        ledger_length,
     }
 }
 
-// Writes the table, and its ledger.
-fn fill<'a>(
-    texts: &[&'a [u8]],
-    lines: &[u16; NUMBERS],
-    facts: &[u32; FACTS],
-    count: usize,
-    bytes: usize,
-    table: &mut [u8],
-    ledger: &mut [u8],
-)
-    requires { TableReady (map (λ x. x.now) texts.now) lines.now facts.now count (length table.old)
-        × LedgerReady facts.now count bytes (length ledger.old) }
-    ensures table_written { TableWritten (map (λ x. x.now) texts.now) lines.now facts.now table.old table.new }
-    ensures ledger_after { ledger.new ≡ over (ledger_of (entries_to facts.now count)) ledger.old }
+// The answer with this end: the two lengths stand in it, but not on 26.
+fn answer(end: Result<(), Shortage>, s: Sums) -> Merged
+    ensures { result ≡ room_told (end_code end) s.table s.ledger }
 {
-    write_table(texts, lines, facts, table, count);
-    write_ledger(facts, ledger, count, bytes);
+    match end {
+        Ok(()) => told(ACCEPTED, s.table, s.ledger),
+        Err(Shortage::Limits) => told(MERGED_TOO_LARGE, 0, 0),
+        Err(shortage) => told(u32::from(shortage), s.table, s.ledger),
+    }
 }
 
 // The end of a merge whose table of `count` records lies in memory, its lines in written order.
-pub fn pack<'a>(
-    texts: &[&'a [u8]],
-    lines: &[u16; NUMBERS],
-    facts: &[u32; FACTS],
+pub fn pack(
+    texts: &[&[u8]],
+    table: &Table,
     count: usize,
-    table: &mut [u8],
+    out_table: &mut [u8],
     ledger: &mut [u8],
 ) -> Merged
-    requires { PackReady (map (λ x. x.now) texts.now) lines.now facts.now count }
-    ensures { Packs (map (λ x. x.now) texts.now) lines.now facts.now count
-        table.old ledger.old result table.new ledger.new }
+    requires { PackReady (map (λ x. x.now) texts.now) (lines_in table.now) (facts_in table.now) count }
+    ensures { Packs (map (λ x. x.now) texts.now) (lines_in table.now) (facts_in table.now) count
+        out_table.old ledger.old result out_table.new ledger.new }
 {
-    let s = sum_lines(facts, count);
-    let code = room(count, s.table, s.ledger, table.len(), ledger.len());
-    if code != ACCEPTED {
-        return answer(code, s.table, s.ledger);
-    }
-    fill(texts, lines, facts, count, s.bytes, table, ledger);
-    answer(code, s.table, s.ledger)
+    let s = sum_lines(table, count);
+    let end = fill(texts, table, count, s, out_table, ledger);
+    answer(end, s)
 }

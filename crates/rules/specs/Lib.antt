@@ -11,6 +11,7 @@
 -- numbers and nothing on how a text is read, what a table is and what is none. Lists and Quoted are words that the others use.
 pub mod Limits
 pub mod Codes
+pub mod Kinds
 pub mod Lists
 pub mod Quoted
 pub mod Marks

@@ -1,4 +1,5 @@
-// The answers of the calls, by value, in the order of document 01. specs/Calls says what each holds.
+// The answers of the calls, by value, in the order of document 01. specs/Calls says what each holds. Codes, tables and places are numbers
+// here, 0 for none, since C reads them.
 
 // Check: code, line, count of records, greatest depth.
 #[repr(C)]

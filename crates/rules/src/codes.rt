@@ -1,4 +1,4 @@
-// The codes, for the code, in document 01's order.
+// The codes, for the code, in document 01's order: the numbers that C reads. What is refused is told by kind inside (kinds).
 ghost use Rattle.std.specs.Prelude.{◌≡◌};
 ghost use Rattle.rules.specs.Codes.{codes as all};
 

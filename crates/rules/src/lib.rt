@@ -4,5 +4,6 @@
 
 pub mod answers;
 pub mod codes;
+pub mod kinds;
 pub mod limits;
 pub mod record;

@@ -5,7 +5,7 @@ ghost use Rattle.rules.specs.Marks.{TOP, START, END, is_record};
 use crate::limits::GREATEST;
 
 // 32 bits, since the marks stand beside 65,535 numbers.
-#[derive(Clone, Copy)]
+#[derive(Clone, Copy, PartialEq, Eq, PartialOrd, Ord)]
 pub struct Record {
     pub number: u32,
 }
@@ -17,65 +17,46 @@ impl Record {
 
     pub const END: Record = Record { number: 65537 };
 
-    // Nobody stands there. The top is nobody's neighbour, so its number is free to say that.
+    // Nobody stands there. The top is nobody's neighbour, so its number is free to say that. No Option: Asked and the theorems exact and
+    // shown
+    // answer 0 there, and neighbours are compared with one another, nobody and END among them.
     pub const NOBODY: Record = Record::TOP;
-
-    // ---- made
-
-    pub fn new(number: u32) -> Self
-        ensures { result.number ≡ number }
-    {
-        Record { number }
-    }
-
-    pub fn top() -> Self
-        ensures { result.number ≡ TOP }
-    {
-        Record::TOP
-    }
-
-    pub fn start() -> Self
-        ensures { result.number ≡ START }
-    {
-        Record::START
-    }
-
-    pub fn end() -> Self
-        ensures { result.number ≡ END }
-    {
-        Record::END
-    }
-
-    // ---- tested
 
     pub fn is_record(self) -> bool
         ensures { result ≡ is_record self.number }
     {
-        let n = self.number;
-        if 1 <= n { n <= GREATEST } else { false }
+        (1..=GREATEST).contains(&self.number)
     }
 
     pub fn is_top(self) -> bool
         ensures { result ≡ eqb self.number TOP }
     {
-        self.number == Record::TOP.number
+        self == Record::TOP
     }
 
     pub fn is_start(self) -> bool
         ensures { result ≡ eqb self.number START }
     {
-        self.number == Record::START.number
+        self == Record::START
     }
 
     pub fn is_end(self) -> bool
         ensures { result ≡ eqb self.number END }
     {
-        self.number == Record::END.number
+        self == Record::END
     }
 
     pub fn is_nobody(self) -> bool
         ensures { result ≡ eqb self.number 0 }
     {
-        self.number == Record::NOBODY.number
+        self == Record::NOBODY
+    }
+}
+
+impl From<u32> for Record {
+    ghost from_gives = { λ number made. made.number ≡ number };
+
+    fn from(number: u32) -> Record {
+        Record { number }
     }
 }

@@ -6,8 +6,7 @@ use Prim.Native.Nat.{ℕ}
 use Rattle.rules.specs.Line.{Row}
 use Rattle.rules.specs.Table.{Verdict, readable, unreadable, verdict}
 use Rattle.readback.proofs.Accepting.{refused_code}
-use Rattle.table.specs.declared.Read.{Read}
-use Rattle.table.specs.Read.{read_told, Reads}
+use Rattle.table.specs.Read.{Read, read_told, Reads}
 
 -- the table that was read
 pub record Accepted (text : List ℕ) (a : Read) : Type 0 where

@@ -23,12 +23,13 @@ use Rattle.facts.proofs.Adding.{Added, added}
 use Rattle.facts.proofs.Fresh.{fresh_holds}
 use Rattle.line.specs.declared.Line.{Line}
 use Rattle.line.specs.declared.Reached.{Reached}
+use Rattle.std.specs.Prelude.{Ok}
 use Rattle.line.specs.Told.{reached_from}
 use Rattle.table.specs.Read.{fault_in, Begins}
 use Rattle.table.proofs.Reading.{Reading, row, follows, is_good, on, has_stands}
 
 module _ (text ls fs : List ℕ) (place c : ℕ) (g : Reading text place ls fs c) (more : place < length text) (r : Reached)
-    (e : r ≡ reached_from text place) (fine : fault_in ls c r.line ≡ accepted) where
+    (e : Ok r ≡ reached_from text place) (fine : fault_in ls c (Ok r) ≡ accepted) where
   abbrev l : Line
   l = r.line
 

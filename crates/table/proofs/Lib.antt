@@ -2,7 +2,6 @@
 -- the text; and all tables in turn.
 pub mod Reading
 pub mod Growing
-pub mod Judging
 pub mod Steps
 pub mod Answers
 pub mod Turns

@@ -8,12 +8,12 @@ use Prim.Native.Nat.{ℕ, ◌+◌, ◌-◌, ◌*◌, ◌<◌, ◌≤◌}
 use native.Mathlib.Omega.{arith}
 use native.Mathlib.Numerals.{add-one}
 use native.Mathlib.Decide.{ℕ_discrete}
-use lib.Dec.{T, eqb, ltb}
+use lib.Dec.{T, eqb, leb, ltb}
 use lib.ListN.{length, drop, length-append, length-drop, drop_of_length-le}
 use lib.Seq.{drop-drop}
 use borrow.Author.Tests.{eqb-true, eq-eqb, ne_eqb, le-ltb, lt-ltb}
-use Rattle.rules.specs.Limits.{BYTES}
-use Rattle.rules.specs.Codes.{accepted, text_too_long, unended}
+use Rattle.rules.specs.Limits.{LINES, BYTES}
+use Rattle.rules.specs.Codes.{accepted, text_too_long, unended, too_many_lines}
 use Rattle.rules.specs.Lists.{◌∈◌}
 use Rattle.rules.specs.Marks.{TOP}
 use Rattle.rules.specs.Text.{LF, count, before, after, lines, ended}
@@ -27,12 +27,14 @@ use Rattle.facts.specs.Holds.{Holds, part_at}
 use Rattle.facts.proofs.Adding.{Added}
 use Rattle.rules.specs.declared.answers.Part.{Part}
 use Rattle.line.specs.declared.Reached.{Reached}
-use Rattle.line.specs.Told.{next_line, reached_from, good}
+use Rattle.line.specs.Told.{next_line, reached_from, from_place, code_told, good}
+use Rattle.std.specs.Prelude.{Result, Ok, Err}
+use Rattle.rules.specs.declared.kinds.Fault.{Fault}
 use Rattle.line.proofs.Telling.{told-fault, told-row}
 use Rattle.readback.proofs.Splitting.{lines_step, before-lt, ended-after, after-drop}
 use Rattle.readback.proofs.Following.{Good, Follows, seen_last, good_more}
 use Rattle.readback.proofs.Faults.{stands_in, in_stands, fault_follows, fault_rules, no_line-fault}
-use Rattle.table.specs.Read.{told, read_told, fault_in, Reads}
+use Rattle.table.specs.Read.{told, read_told, fault_after, fault_in, Reads}
 
 -- ---- at a line's start
 
@@ -81,6 +83,9 @@ pub has_stands : (ls fs : List ℕ) (t : List Row) → Holds ls fs t → (n : �
 has_stands ls fs t h n =
     same_test (has_in ls n) (stands n t) (λ b. in_stands t n (h.only n (ltb_yes b))) (λ b. yes_ltb (h.known n (stands_in t n b)))
 
+ok_same : {a b : Reached} → ◌≡◌ {A = Result Reached Fault} (Ok a) (Ok b) → a ≡ b
+ok_same e = cc
+
 -- ---- the line at the place reached
 
 module _ (text ls fs : List ℕ) (place c : ℕ) (g : Reading text place ls fs c) (more : place < length text) where
@@ -97,16 +102,23 @@ module _ (text ls fs : List ℕ) (place c : ℕ) (g : Reading text place ls fs c
   first-line = lines_step rest some_left g.whole
 
   -- the fault found by memory is the fault by the rows
-  told-fault_is : (r : Reached) → r ≡ reached_from text place → fault_in ls c r.line ≡ fault g.seen line
-  told-fault_is r e = ap (λ (z : Reached). fault_in ls c z.line) e ∙ go (eqb (line_fault line) accepted) refl
+  told-fault_is : (r : Result Reached Fault) → r ≡ reached_from text place → fault_in ls c r ≡ fault g.seen line
+  told-fault_is r e = ap (fault_in ls c) e ∙ go (eqb (line_fault line) accepted) refl
     where
       known : (n : ℕ) → has_in ls n ≡ stands n g.seen
       known = has_stands ls fs g.seen g.holds
 
-      go : (b : Bool) → eqb (line_fault line) accepted ≡ b → fault_in ls c (next_line rest).line ≡ fault g.seen line
+      differ : true ≡ false → ⊥
+      differ e = cc
+
+      coded : (v : ℕ) (z : Result Reached Fault) → code_told z ≡ v → eqb v accepted ≡ false → fault_after ls (from_place place z) ≡ v
+      coded v (Ok found) d f = absurd (differ (sym (eq-eqb v accepted (sym d)) ∙ f))
+      coded v (Err why) d f = d
+
+      go : (b : Bool) → eqb (line_fault line) accepted ≡ b → fault_in ls c (from_place place (next_line rest)) ≡ fault g.seen line
       go true q =
           let z = eqb-true (line_fault line) accepted q in
-          ap (λ (z : Reached). fault_in ls c z.line) (told-row rest (told-fault rest ∙ z))
+          ap (λ (z : Result Reached Fault). fault_in ls c (from_place place z)) (told-row rest (told-fault rest ∙ z))
           ∙ rw (
             q,
             g.counted,
@@ -114,10 +126,12 @@ module _ (text ls fs : List ℕ) (place c : ℕ) (g : Reading text place ls fs c
             not-or (eqb (row_of line).parent TOP) (has_in ls (row_of line).parent),
             known (row_of line).parent,
           )
-      go false q = rw (told-fault rest, q, g.counted)
+      go false q =
+          ap (λ (v : ℕ). cond (leb LINES c) too_many_lines v) (coded (line_fault line) (next_line rest) (told-fault rest) q)
+          ∙ rw (q, g.counted)
 
   -- a fault ends the reading
-  pub out : (r : Reached) (code : ℕ) → r ≡ reached_from text place → code ≡ fault_in ls c r.line → (code ≡ accepted → ⊥)
+  pub out : (r : Result Reached Fault) (code : ℕ) → r ≡ reached_from text place → code ≡ fault_in ls c r → (code ≡ accepted → ⊥)
       → Reads text ls fs (told code (c + 1) 0)
   out r code e q f = refused text ls fs code (c + 1) (sym g.same ∙ ap (read_lines g.seen) first-line ∙ faulty-line)
     where
@@ -129,21 +143,21 @@ module _ (text ls fs : List ℕ) (place c : ℕ) (g : Reading text place ls fs c
 
   -- ---- the line is good: memory has one row more
 
-  module _ (r : Reached) (e : r ≡ reached_from text place) (fine : fault_in ls c r.line ≡ accepted) where
+  module _ (r : Reached) (e : Ok r ≡ reached_from text place) (fine : fault_in ls c (Ok r) ≡ accepted) where
     abbrev pub row : Row
     row = row_of line
 
     faultless : fault g.seen line ≡ accepted
-    faultless = sym (told-fault_is r e) ∙ fine
+    faultless = sym (told-fault_is (Ok r) e) ∙ fine
 
     pub follows : Follows g.seen row
     follows = fault_follows g.seen line faultless
 
-    is_told : next_line rest ≡ good line
+    is_told : next_line rest ≡ Ok (good line)
     is_told = told-row rest (told-fault rest ∙ no_line-fault line (fault_rules g.seen line faultless))
 
     pub is_good : r ≡ record { line = (good line).line; at = place + (good line).at }
-    is_good = e ∙ (λ i. record { line = (is_told i).line; at = place + (is_told i).at })
+    is_good = ok_same (e ∙ ap (from_place place) is_told)
 
     read_on : read_lines (g.seen ++ (row ∷ [])) (lines (after LF rest)) ≡ verdict text
     read_on = sym good-line ∙ ap (read_lines g.seen) (sym first-line) ∙ g.same

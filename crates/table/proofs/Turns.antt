@@ -2,24 +2,31 @@
 -- lines and facts are their rows of the two arrays, t is the table to read next, a what reading it told, u are its rows; a prime marks
 -- the arrays with one table more. Assumes nothing.
 use mathlib.Core.Path.{◌≡◌, refl, sym, ap, ◌∙◌, subst}
-use mathlib.Core.List.{List, [], ◌∷◌, ◌++◌, map, append_assoc, append-nil}
-use Prim.Native.Nat.{ℕ, suc, ◌+◌, ◌-◌, ◌<◌, ◌≤◌}
+use mathlib.Core.List.{List, [], ◌∷◌, ◌++◌, append_assoc, append-nil}
+use Prim.Native.Nat.{ℕ, suc, ◌+◌, ◌<◌, ◌≤◌}
 use native.Mathlib.Omega.{arith}
 use native.Mathlib.Numerals.{suc-eq-add-one}
-use mir.Val.{Fits}
-use mir.Syntax.{w32, w64}
 use denote.Ref.{Bor}
+use Rattle.std.specs.Prelude.{Ok, Err}
+use Rattle.std.proofs.lemmas.List.{map-set, set-get_or}
+use Rattle.facts.specs.Memory.{no_lines, no_facts}
+use Rattle.facts.specs.Table.{lines_in, facts_in}
+use Rattle.facts.specs.Inputs.{texts_of, lines_of, facts_of, counts_of}
+use Rattle.facts.specs.declared.inputs.Input.{Input}
+use Rattle.facts.specs.declared.inputs.Inputs.{Inputs}
+use Rattle.facts.proofs.Sides.{get_or-map_in}
+use Rattle.rules.specs.Kinds.{fault_code}
+use Rattle.table.specs.declared.Unreadable.{Unreadable}
+use Rattle.table.proofs.Steps.{fills, fault_coded}
 use lib.ListN.{length, drop, get_or, set, length-map, length-set, length-append, get_or-append, drop_of_length-le}
 use lib.Seq.{drop-cons, get_or-append_seam, get_or-set_same, get_or-set_other}
-use borrow.Author.Rules.{rules}
 use borrow.Author.Count.{below_more}
 use Rattle.rules.specs.Line.{Row}
 use Rattle.rules.specs.Table.{Verdict, readable, unreadable, verdict}
 use Rattle.rules.specs.Calls.{Outcome, once_read, once_all_read}
 use Rattle.facts.specs.Memory.{TABLES}
-use Rattle.table.specs.declared.Read.{Read}
-use Rattle.table.specs.Read.{told, Reads, Unread, Fills}
-use Rattle.table.specs.All.{ReadsAll}
+use Rattle.table.specs.Read.{Read, told, told_by, Reads, Unread, Fills}
+use Rattle.table.specs.All.{refused_by, ReadsAll}
 use Rattle.table.proofs.Answers.{Accepted, refused, accepted}
 
 -- ---- one table
@@ -52,25 +59,18 @@ pub record Turn (texts lines facts : List (List ℕ)) (counts : List ℕ) (t : �
   pub same : (next : List (List Row) → Outcome)
       → once_all_read (t + 1) (drop t texts) (λ us. next (tables ++ us)) ≡ once_all_read 1 texts next
 
-pub turn-start : (texts : List (Bor (List ℕ))) (lines facts : List (List ℕ)) (counts : List ℕ)
-    → (length texts ≡ TABLES) × ((t : ℕ) → t < TABLES → Unread lines facts t) → length counts ≡ TABLES
-    → Turn (map (λ x. x.now) texts) lines facts counts 0
-turn-start texts lines facts counts h n = record {
+pub turn-start : (texts lines facts : List (List ℕ)) (counts : List ℕ) → ((t : ℕ) → t < TABLES → Unread lines facts t)
+    → length texts ≡ TABLES → length counts ≡ TABLES → Turn texts lines facts counts 0
+turn-start texts lines facts counts h m n = record {
   tables = [];
   many = refl;
   up = omega arith;
-  texts_many = length-map texts (λ x. x.now) ∙ h.0;
+  texts_many = m;
   counts_many = n;
-  held = λ k b. absurd (omega arith);
-  unread = λ k b. h.1 k;
+  held = λ k b. absurd (omega (arith, b));
+  unread = λ k b. h k;
   same = λ next. refl;
 }
-
-module _ (texts : List (Bor (List ℕ))) (lines facts : List (List ℕ)) (counts : List ℕ) (t : ℕ)
-    (s : Turn (map (λ x. x.now) texts) lines facts counts t)
-  where
-    pub turn_text : t < TABLES → t < length texts
-    turn_text h = omega (arith, s.texts_many, length-map texts (λ x. x.now))
 
 module _ (texts lines facts : List (List ℕ)) (counts : List ℕ) (t : ℕ) (s : Turn texts lines facts counts t) where
   -- all were read
@@ -96,15 +96,6 @@ module _ (texts lines facts : List (List ℕ)) (counts : List ℕ) (t : ℕ) (s 
   module _ (h : t < TABLES) where
     pub turn_unread : Unread lines facts t
     turn_unread = s.unread t (omega arith) h
-
-    pub turn_fits : Fits w64 (t + 1)
-    turn_fits = record { fits = omega arith }
-
-    pub turn_small : Fits w32 (t + 1)
-    turn_small = record { fits = omega arith }
-
-    pub turn_less : TABLES - (t + 1) < TABLES - t
-    turn_less = omega arith
 
     module _ (text : List ℕ) (e : text ≡ get_or texts t []) (lines' facts' : List (List ℕ)) (a : Read)
         (w : Fills text lines facts t lines' facts' a) where
@@ -199,4 +190,78 @@ module _ (texts lines facts : List (List ℕ)) (counts : List ℕ) (t : ℕ) (s 
                 once_all_read (suc-eq-add-one (t + 1) i) (drop (suc-eq-add-one t i) texts)
                 (λ us. next (sym (append_assoc s.tables (read.t ∷ []) us) i))
 
-pub ruleset turns = (turn-start, turn_text, turn_end, turn_unread, turn_fits, turn_small, turn_less, turn_refused, turn_on, rules)
+-- ---- as the code goes: xs are the tables handed in, x is one after it was read
+
+abbrev pub all : List Input → Inputs
+all xs = record { tables = xs }
+
+-- the texts stay, and the tables before t are read
+pub record Reading (texts : List (List ℕ)) (xs : List Input) (t : ℕ) : Type 0 where
+  pub texts_stay : texts_of (all xs) ≡ texts
+  pub turn : Turn texts (lines_of (all xs)) (facts_of (all xs)) (counts_of (all xs)) t
+
+pub reading-start : (xs : List Input) → length xs ≡ TABLES
+    → ((t : ℕ) → t < TABLES → Unread (lines_of (all xs)) (facts_of (all xs)) t) → Reading (texts_of (all xs)) xs 0
+reading-start xs long h = record {
+  texts_stay = refl;
+  turn = turn-start _ _ _ _ h (length-map xs _ ∙ long) (length-map xs _ ∙ long);
+}
+
+module _ (texts : List (List ℕ)) (xs : List Input) (t : ℕ) (w : Reading texts xs t) where
+  many : length xs ≡ TABLES
+  many = sym (length-map xs (λ (x : Input). x.count)) ∙ w.turn.counts_many
+
+  pub reading-end : TABLES ≤ t → ReadsAll texts (lines_of (all xs)) (facts_of (all xs)) (counts_of (all xs)) (refused_by (Ok tt))
+  reading-end h = turn_end texts _ _ _ t w.turn h
+
+  pub reading_unread : (h : t < TABLES) (d : Input) → (lines_in (get_or xs t d).table ≡ no_lines) ×
+      (facts_in (get_or xs t d).table ≡ no_facts)
+  reading_unread h d =
+      let u = turn_unread texts _ _ _ t w.turn h in (
+        sym (get_or-map_in (λ (x : Input). lines_in x.table) xs t d [] (omega (arith, many, h))) ∙ u.no_line,
+        sym (get_or-map_in (λ (x : Input). facts_in x.table) xs t d [] (omega (arith, many, h))) ∙ u.no_fact,
+      )
+
+  module _ (h : t < TABLES) (d x : Input) (same : x.text ≡ (get_or xs t d).text) where
+    text_is : (get_or xs t d).text.now ≡ get_or texts t []
+    text_is = sym (get_or-map_in (λ (x : Input). x.text.now) xs t d [] (omega (arith, many, h))) ∙ ap
+        (λ (ts : List (List ℕ)). get_or ts t []) w.texts_stay
+
+    texts_on : texts_of (all (set xs t x)) ≡ texts
+    texts_on =
+        map-set (λ (x : Input). x.text.now) xs t x
+        ∙ ap (set (texts_of (all xs)) t) (ap (λ (b : Bor (List ℕ)). b.now) same
+        ∙ sym (get_or-map_in (λ (x : Input). x.text.now) xs t d [] (omega (arith, many, h))))
+        ∙ set-get_or (texts_of (all xs)) t [] ∙ w.texts_stay
+
+    module _ (a : Read) (r : Reads (get_or xs t d).text.now (lines_in x.table) (facts_in x.table) a) where
+      filled : Fills (get_or xs t d).text.now (lines_of (all xs)) (facts_of (all xs)) t (lines_of (all (set xs t x)))
+          (facts_of (all (set xs t x))) a
+      filled =
+          subst (λ (z : List (List ℕ)). Fills (get_or xs t d).text.now (lines_of (all xs)) (facts_of (all xs)) t z
+          (facts_of (all (set xs t x))) a) (sym (map-set (λ (x : Input). lines_in x.table) xs t x))
+          (subst (λ (z : List (List ℕ)). Fills (get_or xs t d).text.now (lines_of (all xs)) (facts_of (all xs)) t
+          (set (lines_of (all xs)) t (lines_in x.table)) z a) (sym (map-set (λ (x : Input). facts_in x.table) xs t x))
+          (fills (get_or xs t d).text.now (lines_of (all xs)) (facts_of (all xs)) t (lines_in x.table) (facts_in x.table) a h
+          (length-map xs _ ∙ many) (length-map xs _ ∙ many) r))
+
+    pub reading_on : Reads (get_or xs t d).text.now (lines_in x.table) (facts_in x.table) (told 0 0 x.count) → Reading texts (set xs t x)
+        (t + 1)
+    reading_on r = record {
+      texts_stay = texts_on;
+      turn = subst (λ (z : List ℕ). Turn texts (lines_of (all (set xs t x))) (facts_of (all (set xs t x))) z (t + 1))
+          (sym (map-set (λ (x : Input). x.count) xs t x))
+          (turn_on texts _ _ _ t w.turn h (get_or xs t d).text.now text_is _ _ (told 0 0 x.count) (filled (told 0 0 x.count) r)
+          0 x.count refl refl refl);
+    }
+
+    pub reading_refused : (why : Unreadable) → Reads (get_or xs t d).text.now (lines_in x.table) (facts_in x.table) (told_by (Err why))
+        → ReadsAll texts (lines_of (all (set xs t x))) (facts_of (all (set xs t x))) (counts_of (all (set xs t x)))
+        (refused_by (Err (record { table = t + 1; why = why })))
+    reading_refused why r =
+        let z = turn_refused texts _ _ _ t w.turn h (get_or xs t d).text.now text_is _ _ (told_by (Err why)) (filled (told_by (Err why)) r)
+        (fault_code why.fault) why.line refl refl (fault_coded why.fault) in
+        record { refused = z.refused; accepted = λ e. absurd (fault_coded why.fault e) }
+
+    pub texts_same : texts_of (all (set xs t x)) ≡ texts
+    texts_same = texts_on

@@ -1,6 +1,6 @@
 -- What reading a table into memory answers and leaves there. text is the table's bytes, ls and fs are the two arrays after the call, t
 -- is its rows, n a number, l what is told of a line. Assumes nothing.
-use Rattle.std.specs.Prelude.{◌≡◌, true, cond, not, List, [], ℕ, ◌<◌, ◌≤◌, eqb, leb, length, get_or}
+use Rattle.std.specs.Prelude.{◌≡◌, true, cond, not, List, [], ℕ, ◌<◌, ◌≤◌, leb, length, get_or, Result, Ok, Err}
 use Rattle.rules.specs.Limits.{LINES, BYTES}
 use Rattle.rules.specs.Codes.{accepted, too_many_lines, number_twice, parent_missing}
 use Rattle.rules.specs.Lists.{◌∈◌}
@@ -11,16 +11,33 @@ use Rattle.rules.specs.Calls.{content_answer}
 use Rattle.facts.specs.Memory.{TABLES, no_lines, no_facts, opened}
 use Rattle.facts.specs.Asked.{has_in, list_in}
 use Rattle.facts.specs.Holds.{Holds, part_at}
-use Rattle.line.specs.declared.Line.{Line}
-use Rattle.table.specs.declared.Read.{Read}
+use Rattle.rules.specs.Kinds.{fault_code}
+use Rattle.rules.specs.declared.kinds.Fault.{Fault}
+use Rattle.line.specs.declared.Reached.{Reached}
+use Rattle.table.specs.declared.Unreadable.{Unreadable}
 
--- code, line, count of records
+-- what reading tells: code, line, count of records
+pub record Read : Type 0 where
+  pub code : ℕ
+  pub line : ℕ
+  pub count : ℕ
+
 abbrev pub told : ℕ → ℕ → ℕ → Read
 told code line count = record { code = code; line = line; count = count }
 
 abbrev pub read_told : Verdict → Read
 read_told (readable t) = told accepted 0 (length t)
 read_told (unreadable code line) = told code line 0
+
+-- as the code answers it
+abbrev pub told_by : Result ℕ Unreadable → Read
+told_by (Ok count) = told accepted 0 count
+told_by (Err why) = told (fault_code why.fault) why.line 0
+
+-- the same where the count is told elsewhere
+abbrev pub counted : Result Unit Unreadable → ℕ → Read
+counted (Ok read) count = told accepted 0 count
+counted (Err why) count = told (fault_code why.fault) why.line 0
 
 -- a text that 1 and 2 do not refuse, and memory that knows no line yet
 pub record Begins (text ls fs : List ℕ) : Type 0 where
@@ -35,13 +52,16 @@ pub record Reads (text ls fs : List ℕ) (answer : Read) : Type 0 where
   pub held : (t : List Row) → verdict text ≡ readable t → Holds ls fs t
   pub placed : (t : List Row) → verdict text ≡ readable t → (n : ℕ) → n ∈ numbers t → part_at ls fs n ≡ content_answer text n
 
--- "the lowest code of 3 to 10 wins": of a line after the first `count` lines, whose numbers ls knows
-abbrev pub fault_in : List ℕ → ℕ → Line → ℕ
-fault_in ls count l =
-    cond (leb LINES count) too_many_lines
-    (cond (not (eqb l.code accepted)) l.code
-    (cond (has_in ls l.number.number) number_twice
-    (cond (not (list_in ls l.parent.number)) parent_missing accepted)))
+-- of what was found, after lines whose numbers ls knows
+abbrev pub fault_after : List ℕ → Result Reached Fault → ℕ
+fault_after ls (Err fault) = fault_code fault
+fault_after ls (Ok found) =
+    cond (has_in ls found.line.number.number) number_twice
+    (cond (not (list_in ls found.line.parent.number)) parent_missing accepted)
+
+-- "the lowest code of 3 to 10 wins": of what was found after the first `count` lines
+abbrev pub fault_in : List ℕ → ℕ → Result Reached Fault → ℕ
+fault_in ls count found = cond (leb LINES count) too_many_lines (fault_after ls found)
 
 -- ---- tables side by side
 

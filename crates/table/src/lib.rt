@@ -2,170 +2,126 @@
 // by side, read in order.
 #![tactic(auto)]
 
-ghost use Rattle.std.specs.Prelude.{◌≡◌, map, ℕ, ◌<◌, length};
+ghost use Rattle.std.specs.Prelude.{◌≡◌, ℕ, ◌<◌, MatchResult};
+ghost use Rattle.rules.specs.Codes.{accepted};
+ghost use Rattle.rules.specs.Kinds.{fault_code};
 ghost use Rattle.facts.specs.Memory.{TABLES as tables_of_memory, no_lines, no_facts};
-ghost use Rattle.table.specs.Read.{told, fault_in, Begins, Reads, Unread, Fills};
-ghost use Rattle.table.specs.All.{ReadsAll};
+ghost use Rattle.facts.specs.Table.{lines_in, facts_in};
+ghost use Rattle.facts.specs.Inputs.{texts_of, lines_of, facts_of, counts_of};
+ghost use Rattle.table.specs.Read.{told_by, counted, fault_in, Begins, Reads, Unread};
+ghost use Rattle.table.specs.All.{refused_by, ReadsAll};
 
-use facts::{FACTS, NUMBERS, TABLES, add_line, has, list, open};
-use line::{Line, line_at};
-use rules::codes::{
-    ACCEPTED, NUMBER_TWICE, PARENT_MISSING, TEXT_TOO_LONG, TOO_MANY_LINES, UNENDED,
-};
+use facts::Table;
+use facts::inputs::{Input, Inputs};
+use line::{Reached, line_at};
+use rules::kinds::Fault;
 use rules::limits::{BYTES, LINES};
-use text::{ended, ends, text_of};
+use text::{ended, ends};
 
-// What reading tells: code, line, count of records.
+// Why a text is no table, and on which line; 0 stands for the whole text, as in the answer that C reads.
 #[derive(Clone, Copy)]
-pub struct Read {
-    pub code: u32,
+pub struct Unreadable {
+    pub fault: Fault,
     pub line: u32,
-    pub count: usize,
 }
 
-// The first refused table: code, table, line. All 0 where every table was read.
+// The first of some texts that is no table, by its number from 1 on, and why.
 #[derive(Clone, Copy)]
 pub struct Refusal {
-    pub code: u32,
     pub table: u32,
-    pub line: u32,
+    pub why: Unreadable,
 }
 
-fn refused(code: u32, line: u32) -> Read
-    ensures { result ≡ told code line 0 }
-{
-    Read {
-        code,
-        line,
-        count: 0,
-    }
-}
-
-// The lowest code of 3 to 10 that a line has after the first `count` lines, or 0.
-fn fault_of(lines: &[u16; NUMBERS], count: usize, l: Line) -> u32
-    ensures { result ≡ fault_in lines.now count l }
+// The line that was found behind the first `count` lines, or the lowest of the faults 3 to 10 that it has.
+fn judged(table: &Table, count: usize, found: Result<Reached, Fault>) -> Result<Reached, Fault>
+    ensures { MatchResult result
+        (λ reached. (found ≡ Ok reached) × (fault_in (lines_in table.now) count found ≡ accepted))
+        (λ fault. fault_code fault ≡ fault_in (lines_in table.now) count found) }
 {
     if LINES <= count {
-        return TOO_MANY_LINES;
+        return Err(Fault::TooManyLines);
     }
-    let code = l.code;
-    if code != ACCEPTED {
-        return code;
+    let reached = found?;
+    if table.has(reached.line.number) {
+        return Err(Fault::NumberTwice);
     }
-    let number = l.number;
-    if has(lines, number) {
-        return NUMBER_TWICE;
+    if !table.list(reached.line.parent) {
+        return Err(Fault::ParentMissing);
     }
-    let parent = l.parent;
-    if list(lines, parent) {
-        return ACCEPTED;
-    }
-    PARENT_MISSING
+    Ok(reached)
 }
 
-// Reads the lines of an ended text into memory that knows none yet.
-fn read_lines(text: &[u8], lines: &mut [u16; NUMBERS], facts: &mut [u32; FACTS]) -> Read
-    requires { Begins text.now lines.old facts.old }
-    ensures { Reads text.now lines.new facts.new result }
+// Reads the lines of an ended text into memory that knows none yet, and answers how many there are.
+#[tactic(auto, using(crate::proofs::Steps::steps))]
+fn read_lines(text: &[u8], table: &mut Table) -> Result<usize, Unreadable>
+    requires { Begins text.now (lines_in table.old) (facts_in table.old) }
+    ensures { Reads text.now (lines_in table.new) (facts_in table.new) (told_by result) }
 {
     let mut at: usize = 0;
     let mut count: usize = 0;
+    // No `for`: each line says where the next one starts.
     while at < text.len() {
-        let reached = line_at(text, at);
-        let l = reached.line;
-        let code = fault_of(lines, count, l);
-        if code != ACCEPTED {
-            return refused(code, (count + 1) as u32);
-        }
-        let number = l.number;
-        let parent = l.parent;
-        let start = (at + l.start) as u32;
-        let length = l.length as u32;
+        let reached = match judged(table, count, line_at(text, at)) {
+            Ok(reached) => reached,
+            Err(fault) => {
+                let line = (count + 1) as u32;
+                return Err(Unreadable { fault, line });
+            }
+        };
+        let line = reached.line;
+        let start = (at + line.start) as u32;
         count += 1;
-        add_line(lines, facts, count, number, parent, start, length);
+        table.add_line(count, line.number, line.parent, start, line.length as u32);
         at = reached.at;
     }
-    Read {
-        code: ACCEPTED,
-        line: 0,
-        count,
-    }
+    Ok(count)
 }
 
-// Reads a table into memory that is all zeros.
-pub fn read_table(text: &[u8], lines: &mut [u16; NUMBERS], facts: &mut [u32; FACTS]) -> Read
-    requires { (lines.old ≡ no_lines) × (facts.old ≡ no_facts) }
-    ensures { Reads text.now lines.new facts.new result }
+// Reads a table into memory that is all zeros, and answers how many records it has.
+#[tactic(auto, using(crate::proofs::Steps::steps))]
+pub fn read_table(text: &[u8], table: &mut Table) -> Result<usize, Unreadable>
+    requires { (lines_in table.old ≡ no_lines) × (facts_in table.old ≡ no_facts) }
+    ensures { Reads text.now (lines_in table.new) (facts_in table.new) (told_by result) }
 {
     if BYTES < text.len() {
-        return refused(TEXT_TOO_LONG, 0);
+        return Err(Unreadable {
+            fault: Fault::TextTooLong,
+            line: 0,
+        });
     }
     if !ended(text) {
-        let line = ends(text) + 1;
-        return refused(UNENDED, line as u32);
+        return Err(Unreadable {
+            fault: Fault::Unended,
+            line: (ends(text) + 1) as u32,
+        });
     }
-    open(facts);
-    read_lines(text, lines, facts)
+    table.open();
+    read_lines(text, table)
 }
 
-// What the types of the lent arrays say of their lengths. It does nothing when it runs.
-fn side_by_side(lines: &[[u16; NUMBERS]; TABLES], facts: &[[u32; FACTS]; TABLES])
-    ensures { (length lines.now ≡ tables_of_memory) × (length facts.now ≡ tables_of_memory) }
+// Reads the text of a table into its place.
+fn read_input(input: &mut Input) -> Result<(), Unreadable>
+    requires { (lines_in input.old.table ≡ no_lines) × (facts_in input.old.table ≡ no_facts) }
+    ensures text { input.new.text ≡ input.old.text }
+    ensures read { Reads input.old.text.now (lines_in input.new.table) (facts_in input.new.table) (counted result input.new.count) }
 {
-    let s = &lines[..];
-    let u = &facts[..];
-}
-
-// Reads table number `t` of those that lie side by side: its row of each array is filled, and the others stay.
-pub fn read_into(
-    text: &[u8],
-    lines: &mut [[u16; NUMBERS]; TABLES],
-    facts: &mut [[u32; FACTS]; TABLES],
-    t: usize,
-) -> Read
-    requires { Unread lines.old facts.old t }
-    ensures { Fills text.now lines.old facts.old t lines.new facts.new result }
-{
-    side_by_side(lines, facts);
-    read_table(text, &mut lines[t], &mut facts[t])
-}
-
-// What the type of the lent counts says of their number. It does nothing when it runs.
-fn one_each(counts: &[usize; TABLES])
-    ensures { length counts.now ≡ tables_of_memory }
-{
-    let s = &counts[..];
+    input.count = read_table(input.text, &mut input.table)?;
+    Ok(())
 }
 
 // Reads the texts in order, each into its place, and stops at the first refused one.
-pub fn read_all<'a>(
-    texts: &[&'a [u8]],
-    lines: &mut [[u16; NUMBERS]; TABLES],
-    facts: &mut [[u32; FACTS]; TABLES],
-    counts: &mut [usize; TABLES],
-) -> Refusal
-    requires { (length texts.now ≡ tables_of_memory) × ((t : ℕ) → t < tables_of_memory → Unread lines.old facts.old t) }
-    ensures { ReadsAll (map (λ x. x.now) texts.now) lines.new facts.new counts.new result }
+pub fn read_all(inputs: &mut Inputs) -> Result<(), Refusal>
+    requires { (t : ℕ) → t < tables_of_memory → Unread (lines_of inputs.old) (facts_of inputs.old) t }
+    ensures texts { texts_of inputs.new ≡ texts_of inputs.old }
+    ensures read { ReadsAll (texts_of inputs.old) (lines_of inputs.new) (facts_of inputs.new) (counts_of inputs.new) (refused_by result) }
 {
-    one_each(counts);
-    let mut t: usize = 0;
-    while t < TABLES {
-        let text = text_of(texts, t);
-        let read = read_into(text, lines, facts, t);
-        let code = read.code;
-        if code != ACCEPTED {
-            return Refusal {
-                code,
+    for (t, input) in inputs.tables[..].iter_mut().enumerate() {
+        if let Err(why) = read_input(input) {
+            return Err(Refusal {
                 table: (t + 1) as u32,
-                line: read.line,
-            };
+                why,
+            });
         }
-        counts[t] = read.count;
-        t += 1;
     }
-    Refusal {
-        code: ACCEPTED,
-        table: 0,
-        line: 0,
-    }
+    Ok(())
 }

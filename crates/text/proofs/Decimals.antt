@@ -1,29 +1,39 @@
 -- The number that the plain bytes from a place on write: its digits, as their loop goes, and then the byte that ended them. s is the
 -- text, i and `from` are places in it, t is what is left of it, v the number that the digits before write, x a byte. Assumes nothing.
 use mathlib.Core.Path.{◌≡◌, refl, sym, ap, ◌∙◌}
-use mathlib.Core.Bool.{Bool, true, false, cond, not, ◌&&◌, true≢false, and-false}
+use mathlib.Core.Bool.{Bool, true, false, cond, ◌&&◌, true≢false, and-false}
 use mathlib.Core.List.{List, [], ◌∷◌}
-use Prim.Native.Nat.{ℕ, zero, suc, ◌+◌, ◌-◌, ◌*◌, ◌<◌, ◌≤◌}
+use Prim.Native.Nat.{ℕ, suc, ◌+◌, ◌-◌, ◌*◌, ◌^◌, ◌<◌, ◌≤◌}
 use native.Mathlib.Omega.{arith}
 use native.Mathlib.Nat.{le_trans}
-use lib.Dec.{eqb, leb}
-use lib.ListN.{length, get_or, take, drop}
-use lib.Seq.{get_or-drop, drop-drop}
+use lib.Dec.{leb}
+use lib.ListN.{length, get_or, take, drop, length-drop}
+use lib.Seq.{get_or-drop}
+use mir.Val.{Fits}
+use mir.Syntax.{w64}
 use borrow.Author.Rules.{rules}
-use borrow.Author.Tests.{ne_eqb, le-leb, lt-leb, le-ltb, lt-ltb, leb-true, leb-false, not-true, not-false}
+use borrow.Author.Tests.{le-leb, lt-leb, leb-true, leb-false}
+use Rattle.std.specs.Prelude.{Option, Some, None}
+use Rattle.std.specs.Bool.{then_some}
 use Rattle.rules.specs.Limits.{GREATEST}
 use Rattle.rules.specs.Lists.{every}
 use Rattle.rules.specs.Text.{LF, digit, no_leading_zero, value_from, value}
-use Rattle.text.specs.Reads.{byte_at, plain, plain_run, NONE, number_in, number_at, digit_run, digits_from, opens}
+use Rattle.text.specs.Reads.{byte_at, plain, plain_run, number_in, number_at, digit_run, digits_of}
+use Rattle.text.specs.declared.Digits.{Digits}
 use Rattle.text.specs.declared.Number.{Number}
-use Rattle.text.proofs.Places.{left-next, left_none}
-use Rattle.text.proofs.Runs.{both}
+use Rattle.text.proofs.Places.{left-next}
+use Rattle.text.proofs.Runs.{both, run_le}
 
 -- ---- the digits, as their loop goes
 
-module _ (s : List ℕ) (whole : Number) (v i : ℕ) (same : digits_from v i (drop i s) ≡ whole) where
-  stopped : digit_run v (drop i s) ≡ 0 → record { end = i; value = v } ≡ whole
-  stopped e = (λ j. record { end = place j; value = written j }) ∙ same
+-- those behind the ones that write v, if s starts at a place: how many there are up to their end, and what they write
+abbrev pub digits_from : ℕ → ℕ → List ℕ → Digits
+digits_from v place s = record { count = place + digit_run v s; value = value_from v (take (digit_run v s) s) }
+
+-- they end where what they write is above the greatest number, or where no digit is next
+module _ (s : List ℕ) (whole : Digits) (v i : ℕ) (same : digits_from v i (drop i s) ≡ whole) (h : i < length s) where
+  stopped : digit_run v (drop i s) ≡ 0 → record { count = i; value = v } ≡ whole
+  stopped e = (λ j. record { count = place j; value = written j }) ∙ same
     where
       place : i ≡ i + digit_run v (drop i s)
       place = omega (arith, e)
@@ -31,61 +41,11 @@ module _ (s : List ℕ) (whole : Number) (v i : ℕ) (same : digits_from v i (dr
       written : v ≡ value_from v (take (digit_run v (drop i s)) (drop i s))
       written = rw e
 
-  pub digits-end : length s ≤ i → record { end = i; value = v } ≡ whole
-  digits-end h = stopped (rw (left_none s i h))
+  pub digits_great : GREATEST < v → record { count = i; value = v } ≡ whole
+  digits_great g = stopped (rw (left-next s i h, lt-leb v GREATEST g))
 
-  module _ (h : i < length s) where
-    pub digits_great : GREATEST < v → record { end = i; value = v } ≡ whole
-    digits_great g = stopped (rw (left-next s i h, lt-leb v GREATEST g))
-
-    module _ (k : v ≤ GREATEST) where
-      pub digits_low : get_or s i 0 < 48 → record { end = i; value = v } ≡ whole
-      digits_low l = stopped (rw (left-next s i h, le-leb v GREATEST k, lt-leb 48 (get_or s i 0) l))
-
-      module _ (l : 48 ≤ get_or s i 0) where
-        pub digits_high : 57 < get_or s i 0 → record { end = i; value = v } ≡ whole
-        digits_high g = stopped (rw (left-next s i h, le-leb v GREATEST k, le-leb 48 (get_or s i 0) l, lt-leb (get_or s i 0) 57 g))
-
-        pub digits-on : get_or s i 0 ≤ 57 → digits_from (v * 10 + (get_or s i 0 - 48)) (i + 1) (drop (i + 1) s) ≡ whole
-        digits-on g = (λ j. record { end = place j; value = written j }) ∙ same
-          where
-            n : ℕ
-            n = digit_run (v * 10 + (get_or s i 0 - 48)) (drop (i + 1) s)
-
-            one : digit_run v (drop i s) ≡ suc n
-            one = rw (left-next s i h, le-leb v GREATEST k, le-leb 48 (get_or s i 0) l, le-leb (get_or s i 0) 57 g)
-
-            place : i + 1 + n ≡ i + digit_run v (drop i s)
-            place = omega (arith, one)
-
-            written : value_from (v * 10 + (get_or s i 0 - 48)) (take n (drop (i + 1) s))
-                ≡ value_from v (take (digit_run v (drop i s)) (drop i s))
-            written = rw (one, left-next s i h)
-
-pub ruleset digits = (digits-end, digits_great, digits_low, digits_high, digits-on, rules)
-
--- ---- what may open a decimal
-
-pub opens_empty : (x from end : ℕ) → end ≤ from → false ≡ opens x (end - from)
-opens_empty x from end h = rw (le-ltb 0 (end - from) (omega arith))
-
-pub opens_one : (x from end : ℕ) → end - from ≡ 1 → true ≡ opens x (end - from)
-opens_one x from end e = rw e
-
-pub opens_more : (x y from end : ℕ) → from < end → (end - from ≡ 1 → ⊥) → y ≡ x → not (eqb y 48) ≡ opens x (end - from)
-opens_more x y from end h n e = rw (lt-ltb 0 (end - from) (omega arith), ne_eqb (end - from) 1 n, e)
-
-pub ruleset openings = (opens_empty, opens_one, opens_more, rules)
-
--- the first n bytes of t
-opens_is : (t : List ℕ) (n : ℕ) → n ≤ length t → opens (byte_at t 0) n ≡ no_leading_zero (take n t)
-opens_is [] zero h = refl
-opens_is [] (suc n) h = absurd (omega arith)
-opens_is (x ∷ t) zero h = refl
-opens_is (x ∷ t) (suc zero) h = refl
-opens_is (x ∷ []) (suc (suc n)) h = absurd (omega arith)
-opens_is (x ∷ y ∷ t) (suc (suc n)) h =
-    rw (lt-ltb 0 (suc (suc n)) (omega arith), ne_eqb (suc (suc n)) 1 (λ e. absurd (omega (arith, e))))
+  pub digits_other : digit (get_or s i 0) ≡ false → record { count = i; value = v } ≡ whole
+  digits_other f = stopped (rw (left-next s i h, f, and-false (leb v GREATEST)))
 
 -- ---- the digits among the plain bytes
 
@@ -165,79 +125,84 @@ run_bad v (x ∷ t) e = go (leb v GREATEST) (digit x) refl refl e (run_bad (v * 
 
 -- ---- the ways through reading a number
 
--- `found` is what was found of the digits, n the byte behind them, u whether it is plain
-module _ (s : List ℕ) (from n : ℕ) (u : Bool) (found : Number) (e : found ≡ digits_from 0 from (drop from s)) (b : n ≡ byte_at s found.end)
-    (f : u ≡ plain n) where
-  abbrev t : List ℕ
-  t = drop from s
+chosen : (b : Bool) (n : ℕ) → then_some b n ≡ cond b (Some n) None
+chosen true n = refl
+chosen false n = refl
 
-  abbrev k : ℕ
-  k = digit_run 0 t
+-- what is told of what is left from a place on
+abbrev number_of : ℕ → List ℕ → Number
+number_of from t = record { end = from + plain_run t; value = number_in (take (plain_run t) t) }
 
-  place : found.end ≡ from + k
-  place = ap (λ (r : Number). r.end) e
+-- t is what is left from a place on, `found` its digits, `written` the digits themselves, `behind` what stands behind them
+module _ (s t : List ℕ) (from : ℕ) (found : Digits) (e : t ≡ drop from s) (f : found ≡ digits_of t) where
+  count_is : found.count ≡ digit_run 0 t
+  count_is = ap (λ (d : Digits). d.count) f
 
-  tested : u ≡ plain (byte_at t k)
-  tested = f ∙ ap plain (b ∙ ap (byte_at s) place ∙ sym (get_or-drop from s k LF))
+  pub count_le : found.count ≤ length t
+  count_le = omega (arith, count_is, digits_le 0 t)
 
-  pub number_plain : (end : ℕ) → u ≡ true → end ≡ found.end + plain_run (drop found.end s)
-      → record { end = end; value = NONE } ≡ number_at s from
-  number_plain end q h = λ i. record { end = finish i; value = none i }
-    where
-      left : drop found.end s ≡ drop k t
-      left = ap (λ (i : ℕ). drop i s) place ∙ sym (drop-drop k from s)
+  -- nothing is left of a text that ends before the place
+  pub left_fits : (n : ℕ) → from < 2 ^ 64 → length s < 2 ^ 64 → n ≤ length t → Fits w64 (from + n)
+  left_fits n h k l = record { fits = omega (arith, h, k, l, ap length e, length-drop from s) }
 
-      finish : end ≡ from + plain_run t
-      finish = omega (arith, h, place, ap plain_run left, digits_run 0 t)
+  module _ (behind : List ℕ) (u : Bool) (b : behind ≡ drop found.count t) (p : u ≡ plain (byte_at behind 0)) where
+    left : behind ≡ drop (digit_run 0 t) t
+    left = b ∙ ap (λ (n : ℕ). drop n t) count_is
 
-      bad : (x y z : Bool) → (x && z) ≡ false → ((x && y) && z) ≡ false
-      bad true true z g = g
-      bad true false z g = refl
-      bad false y z g = refl
+    tested : u ≡ plain (byte_at t (digit_run 0 t))
+    tested =
+        let z : digit_run 0 t + 0 ≡ digit_run 0 t = omega arith in
+        p ∙ ap (λ (r : List ℕ). plain (byte_at r 0)) left ∙ ap plain (get_or-drop (digit_run 0 t) t 0 LF ∙ ap (byte_at t) z)
 
-      none : NONE ≡ number_in (take (plain_run t) t)
-      none =
-          let all = every digit (take (plain_run t) t) in
-          let low = leb (value (take (plain_run t) t)) GREATEST in
-          rw (bad all (no_leading_zero (take (plain_run t) t)) low (run_bad 0 t (sym tested ∙ q)))
+    run_is : found.count + plain_run behind ≡ plain_run t
+    run_is = omega (arith, count_is, ap plain_run left, digits_run 0 t)
 
-  -- w is whether the digits have no leading zero
-  module _ (w : Bool) (q : u ≡ false) (g : w ≡ opens (byte_at s from) (found.end - from)) where
-    ends : plain_run t ≡ k
-    ends = run_ends 0 t (sym tested ∙ q)
+    pub run_fits : found.count + plain_run behind ≤ length t
+    run_fits = omega (arith, run_is, run_le t)
 
-    finish : found.end ≡ from + plain_run t
-    finish = omega (arith, place, ends)
-
-    opened : no_leading_zero (take k t) ≡ w
-    opened =
-        let wide : found.end - from ≡ k = omega (arith, place) in
-        let z : from + 0 ≡ from = omega arith in
-        let first : byte_at t 0 ≡ byte_at s from = get_or-drop from s 0 LF ∙ ap (byte_at s) z in
-        sym (opens_is t k (digits_le 0 t)) ∙ sym (g ∙ ap (opens (byte_at s from)) wide ∙ ap (λ (x : ℕ). opens x k) (sym first))
-
-    written : number_in (take (plain_run t) t) ≡ cond (w && leb found.value GREATEST) found.value NONE
-    written =
-        let v : found.value ≡ value (take k t) = ap (λ (r : Number). r.value) e in
-        rw (ends, digits-all 0 t, opened, v)
-
-    pub number_zero : not w ≡ true → record { end = found.end; value = NONE } ≡ number_at s from
-    number_zero h = λ i. record { end = finish i; value = none i }
+    pub number_plain : u ≡ true → record { end = from + found.count + plain_run behind; value = None } ≡ number_at s from
+    number_plain q = (λ i. record { end = finish i; value = none i }) ∙ ap (number_of from) e
       where
-        none : NONE ≡ number_in (take (plain_run t) t)
-        none = rw (written, not-true w h)
+        finish : from + found.count + plain_run behind ≡ from + plain_run t
+        finish = omega (arith, run_is)
 
-    module _ (h : not w ≡ false) where
-      pub number_great : GREATEST < found.value → record { end = found.end; value = NONE } ≡ number_at s from
-      number_great l = λ i. record { end = finish i; value = none i }
-        where
-          none : NONE ≡ number_in (take (plain_run t) t)
-          none = rw (written, not-false w h, lt-leb found.value GREATEST l)
+        bad : (x y z : Bool) → (x && z) ≡ false → ((x && y) && z) ≡ false
+        bad true true z g = g
+        bad true false z g = refl
+        bad false y z g = refl
 
-      pub number_good : found.value ≤ GREATEST → found ≡ number_at s from
-      number_good l = λ i. record { end = finish i; value = same i }
-        where
-          same : found.value ≡ number_in (take (plain_run t) t)
-          same = rw (written, not-false w h, le-leb found.value GREATEST l)
+        none : None ≡ number_in (take (plain_run t) t)
+        none =
+            let all = every digit (take (plain_run t) t) in
+            let low = leb (value (take (plain_run t) t)) GREATEST in
+            rw (bad all (no_leading_zero (take (plain_run t) t)) low (run_bad 0 t (sym tested ∙ q)))
 
-pub ruleset numbers = (number_plain, number_zero, number_great, number_good, rules)
+    pub number_read : (written : List ℕ) (decimal : Bool) (n : Option ℕ) → u ≡ false → written ≡ take found.count t
+        → decimal ≡ (no_leading_zero written && leb found.value GREATEST) → n ≡ then_some decimal found.value
+        → record { end = from + found.count; value = n } ≡ number_at s from
+    number_read written decimal n q w d g = (λ i. record { end = finish i; value = same i }) ∙ ap (number_of from) e
+      where
+        ends : plain_run t ≡ digit_run 0 t
+        ends = run_ends 0 t (sym tested ∙ q)
+
+        finish : from + found.count ≡ from + plain_run t
+        finish = omega (arith, count_is, ends)
+
+        same : n ≡ number_in (take (plain_run t) t)
+        same = g ∙ chosen_is ∙ chosen _ _ ∙ rw (ends, digits-all 0 t)
+          where
+            r : List ℕ
+            r = take (digit_run 0 t) t
+
+            value_is : found.value ≡ value r
+            value_is = ap (λ (g : Digits). g.value) f
+
+            written_is : written ≡ r
+            written_is = w ∙ ap (λ (n : ℕ). take n t) count_is
+
+            chosen_is : then_some decimal found.value ≡ then_some (no_leading_zero r && leb (value r) GREATEST) (value r)
+            chosen_is =
+                (λ i. then_some (d i) found.value)
+                ∙ (λ i. then_some (no_leading_zero (written_is i) && leb (value_is i) GREATEST) (value_is i))
+
+pub ruleset numbers = (count_le, left_fits, run_fits, number_plain, number_read)

@@ -4,10 +4,7 @@ use mathlib.Core.List.{List, [], map}
 use Prim.Native.Nat.{ℕ}
 use denote.Ref.{Bor}
 use lib.ListN.{get_or, get_or-map}
-use borrow.Author.Rules.{rules}
 
 pub text_at_lem : (texts : List (Bor (List ℕ))) (k : ℕ) (other : Bor (List ℕ)) → other.now ≡ []
     → (get_or texts k other).now ≡ get_or (map (λ x. x.now) texts) k []
 text_at_lem texts k other e = sym (get_or-map (λ x. x.now) texts k other) ∙ ap (get_or (map (λ x. x.now) texts) k) e
-
-pub ruleset texts = (text_at_lem, rules)

@@ -1,8 +1,9 @@
 -- What the leaf calls of reading answer, beside the words of document 01 that `rules` has. s is a part of a text, x a byte.
 -- Assumes nothing.
-use Rattle.std.specs.Prelude.{Bool, cond, not, ◌&&◌, ◌||◌, List, [], ◌∷◌, ℕ, suc, ◌+◌, ◌-◌, ◌*◌, eqb, leb, ltb, get_or, take, drop}
+use Rattle.std.specs.Prelude.{Bool, cond, ◌&&◌, List, [], ◌∷◌, ℕ, suc, ◌+◌, ◌-◌, ◌*◌, leb, Option, Some, None, get_or, take, drop}
 use Rattle.rules.specs.Limits.{GREATEST}
-use Rattle.rules.specs.Text.{LF, digit, decimal, value_from, value}
+use Rattle.rules.specs.Text.{LF, digit, decimal, value}
+use Rattle.text.specs.declared.Digits.{Digits}
 use Rattle.text.specs.declared.Number.{Number}
 
 -- the byte at a place; the end of the text ends a line as an LF does
@@ -18,13 +19,9 @@ abbrev pub plain_run : List ℕ → ℕ
 plain_run [] = 0
 plain_run (x ∷ s) = cond (plain x) (suc (plain_run s)) 0
 
--- the answer for what is no decimal up to the greatest number
-abbrev pub NONE : ℕ
-NONE = 65536
-
--- the number that s writes
-abbrev pub number_in : List ℕ → ℕ
-number_in s = cond (decimal s && leb (value s) GREATEST) (value s) NONE
+-- the number that s writes, if it is a decimal up to the greatest number
+abbrev pub number_in : List ℕ → Option ℕ
+number_in s = cond (decimal s && leb (value s) GREATEST) (Some (value s)) None
 
 -- the plain bytes from a place on: where they end, and the number that they write
 abbrev pub number_at : List ℕ → ℕ → Number
@@ -38,10 +35,6 @@ abbrev pub digit_run : ℕ → List ℕ → ℕ
 digit_run v [] = 0
 digit_run v (x ∷ s) = cond (leb v GREATEST && digit x) (suc (digit_run (v * 10 + (x - 48)) s)) 0
 
--- where they end, if s starts at a place, and what they write
-abbrev pub digits_from : ℕ → ℕ → List ℕ → Number
-digits_from v place s = record { end = place + digit_run v s; value = value_from v (take (digit_run v s) s) }
-
--- n bytes, the first of them x, may open a decimal: there are some, and 0 comes first only where it stands alone
-abbrev pub opens : ℕ → ℕ → Bool
-opens x n = ltb 0 n && (eqb n 1 || not (eqb x 48))
+-- how many they are, and what they write
+abbrev pub digits_of : List ℕ → Digits
+digits_of s = record { count = digit_run 0 s; value = value (take (digit_run 0 s) s) }

@@ -1,9 +1,9 @@
 // The bytes of a text, read: runs of plain bytes, decimals, ends of lines; and one of some texts.
 #![tactic(auto)]
 
-ghost use Rattle.std.specs.Prelude.{[], map, ◌≡◌, ◌+◌, ◌-◌, ◌<◌, length, get_or, drop};
-ghost use Rattle.rules.specs.Text.{LF as line_feed, count, ended as ended_of};
-ghost use Rattle.text.specs.Reads.{byte_at, plain as plain_of, plain_run, digits_from, opens, number_at};
+ghost use Rattle.std.specs.Prelude.{[], map, ◌≡◌, ◌<◌, length, get_or, drop};
+ghost use Rattle.rules.specs.Text.{LF as line_feed, count, ended as ended_of, no_leading_zero as leads_no_zero};
+ghost use Rattle.text.specs.Reads.{byte_at, plain as plain_of, plain_run, digits_of, number_at};
 
 use rules::limits::GREATEST;
 
@@ -11,133 +11,113 @@ pub const TAB: u8 = 9;
 
 pub const LF: u8 = 10;
 
-pub const NONE: u32 = 65536;
-
-const ZERO: u8 = 48;
-
-const NINE: u8 = 57;
-
 // The byte at a place. The end of the text ends a line as an LF does.
 pub fn byte_at(s: &[u8], at: usize) -> u8
     ensures { result ≡ byte_at s.now at }
 {
-    if at < s.len() { s[at] } else { LF }
+    s.get(at).copied().unwrap_or(LF)
+}
+
+// What is left of a text from a place on: nothing, where it ends before.
+pub fn left_from(s: &[u8], from: usize) -> &[u8]
+    ensures { result.now ≡ drop from s.now }
+{
+    s.get(from..).unwrap_or_default()
 }
 
 pub fn plain(x: u8) -> bool
     ensures { result ≡ plain_of x }
 {
-    if x < 32 {
-        return false;
-    }
-    x <= 126
+    matches!(x, 32..=126)
 }
 
-// Where the plain bytes from a place on end.
-fn plain_rest(s: &[u8], from: usize) -> usize
-    ensures { result ≡ from + plain_run (drop from s.now) }
+// How many bytes from the first on are plain.
+fn plain_run(s: &[u8]) -> usize
+    ensures { result ≡ plain_run s.now }
 {
-    let mut i = from;
-    while i < s.len() {
-        if !plain(s[i]) {
-            return i;
-        }
-        i += 1;
-    }
-    i
+    s.iter().take_while(|x| plain(**x)).count()
 }
 
-// The plain bytes from a place on: where they end, and the number that they write.
+// The digits that a text starts with: how many, and what they write.
+#[derive(Clone, Copy)]
+struct Digits {
+    count: usize,
+    value: u32,
+}
+
+// No more are looked at once what they write is above the greatest number.
+fn digits_of(s: &[u8]) -> Digits
+    ensures { result ≡ digits_of s.now }
+{
+    let mut value = 0;
+    for (count, x) in s.iter().enumerate() {
+        if GREATEST < value || !x.is_ascii_digit() {
+            return Digits { count, value };
+        }
+        value = value * 10 + u32::from(*x - b'0');
+    }
+    Digits {
+        count: s.len(),
+        value,
+    }
+}
+
+// Some digits open a decimal: there are any, and 0 comes first only where it stands alone.
+fn no_leading_zero(digits: &[u8]) -> bool
+    ensures { result ≡ leads_no_zero digits.now }
+{
+    match digits {
+        [] => false,
+        [_] => true,
+        [first, ..] => *first != b'0',
+    }
+}
+
+// The plain bytes from a place on: where they end, and the number that they write, if it is one up to 65,535.
 #[derive(Clone, Copy)]
 pub struct Number {
     pub end: usize,
-    pub value: u32,
+    pub value: Option<u32>,
 }
 
-// The digits from a place on: where they end, and what they write. No more are looked at once that is above the greatest number.
-fn digits_from(s: &[u8], from: usize) -> Number
-    ensures { result ≡ digits_from 0 from (drop from s.now) }
-{
-    let mut v: u32 = 0;
-    let mut i = from;
-    while i < s.len() {
-        if GREATEST < v {
-            return Number { end: i, value: v };
-        }
-        let x = s[i];
-        if x < ZERO {
-            return Number { end: i, value: v };
-        }
-        if NINE < x {
-            return Number { end: i, value: v };
-        }
-        v = v * 10 + ((x - ZERO) as u32);
-        i += 1;
-    }
-    Number { end: i, value: v }
-}
-
-// Whether what stands between two places may open a decimal: not empty, and 0 first only where it stands alone.
-fn no_leading_zero(s: &[u8], from: usize, end: usize) -> bool
-    ensures { result ≡ opens (byte_at s.now from) (end - from) }
-{
-    if end <= from {
-        return false;
-    }
-    if end - from == 1 {
-        return true;
-    }
-    byte_at(s, from) != ZERO
-}
-
-// The plain bytes from a place on, with NONE where they write no number up to 65,535. Digits that a tab ends are gone over once.
+// Digits that a tab ends are gone over once.
+#[tactic(auto, using(crate::proofs::Decimals::numbers))]
 pub fn number_at(s: &[u8], from: usize) -> Number
     ensures { result ≡ number_at s.now from }
 {
-    let digits = digits_from(s, from);
-    if plain(byte_at(s, digits.end)) {
-        let end = plain_rest(s, digits.end);
-        return Number { end, value: NONE };
-    }
-    if !no_leading_zero(s, from, digits.end) {
+    let rest = left_from(s, from);
+    let digits = digits_of(rest);
+    let (written, behind) = rest.split_at(digits.count);
+    let end = from + digits.count;
+    if plain(byte_at(behind, 0)) {
         return Number {
-            end: digits.end,
-            value: NONE,
+            end: end + plain_run(behind),
+            value: None,
         };
     }
-    if GREATEST < digits.value {
-        return Number {
-            end: digits.end,
-            value: NONE,
-        };
+    let decimal = no_leading_zero(written) && digits.value <= GREATEST;
+    Number {
+        end,
+        value: decimal.then_some(digits.value),
     }
-    digits
 }
 
 // Whether the text is empty or its last byte is an LF.
+#[tactic(auto, using(crate::proofs::Endings::endings))]
 pub fn ended(s: &[u8]) -> bool
     ensures { result ≡ ended_of s.now }
 {
-    if s.len() == 0 {
-        return true;
+    match s {
+        [] => true,
+        [.., last] => *last == LF,
     }
-    let at = s.len() - 1;
-    s[at] == LF
 }
 
 // How many lines of the text are ended.
 pub fn ends(s: &[u8]) -> usize
     ensures { result ≡ count line_feed s.now }
 {
-    let mut n = 0;
-    let mut i = 0;
-    while i < s.len() {
-        if s[i] == LF {
-            n += 1;
-        }
-        i += 1;
-    }
-    n
+    s.iter().filter(|x| **x == LF).count()
 }
 
 // One of the texts.

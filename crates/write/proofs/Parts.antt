@@ -1,45 +1,25 @@
--- The part of a text that a place tells, and the line of a record made with it. texts are the texts, handed over as references or as
--- their bytes; ls and fs are the two arrays, r is a parent, n a record. Assumes nothing.
+-- The line of a record, made with the part of a text that its place tells. texts are the texts, ls and fs the two arrays, r is a parent, n
+-- a record. Assumes nothing.
 use mathlib.Core.Path.{◌≡◌, sym, ap, ◌∙◌, subst}
-use mathlib.Core.List.{List, [], map}
-use Prim.Native.Nat.{ℕ, ◌+◌, ◌-◌, ◌<◌, ◌≤◌}
+use mathlib.Core.List.{List}
+use Prim.Native.Nat.{ℕ, ◌+◌, ◌≤◌}
 use native.Mathlib.Omega.{arith}
-use native.Mathlib.Nat.{add-sub_cancel_left}
-use denote.Ref.{Bor}
-use lib.ListN.{length, get_or, take, drop, length-drop, length-map}
+use lib.ListN.{length, drop, length-drop}
 use lib.Seq.{length-take-le}
 use borrow.Author.Rules.{rules}
 use Rattle.rules.specs.Lists.{◌∈◌}
 use Rattle.rules.specs.Line.{Row}
 use Rattle.rules.specs.Written.{width, line}
 use Rattle.readback.proofs.ReadBack.{line-length}
-use Rattle.facts.specs.Memory.{PLACE, LENGTH, start_of, text_of, field}
+use Rattle.facts.specs.Memory.{PLACE, LENGTH, start_of, field}
 use Rattle.bytes_out.specs.Put.{Put}
-use Rattle.write.specs.Stored.{text_at, part_in, Lies, HasContent, content_at, Stored}
+use Rattle.write.specs.Stored.{text_at, part_in, content_at, Stored}
 use Rattle.write.specs.Writing.{row_at}
-
--- ---- the part
-
-module _ (texts : List (Bor (List ℕ))) (place long : ℕ) (w : Lies (map (λ x. x.now) texts) place long) where
-  pub part_text : text_of place < length texts
-  part_text = omega (arith, w.text, length-map texts (λ x. x.now))
-
-  module _ (text : List ℕ) (e : text ≡ get_or (map (λ x. x.now) texts) (text_of place) []) where
-    pub part_ends : start_of place + long ≤ length text
-    part_ends = rw e w.within
-
-    pub part_cut : take (start_of place + long - start_of place) (drop (start_of place) text) ≡ part_in (map (λ x. x.now) texts) place long
-    part_cut = rw (add-sub_cancel_left (start_of place) long, e)
-
-pub ruleset parts = (part_text, part_ends, part_cut, rules)
 
 -- ---- the record's line
 
 module _ (texts : List (List ℕ)) (ls fs : List ℕ) (r n place long : ℕ) (p : place ≡ field ls fs n PLACE)
     (k : long ≡ field ls fs n LENGTH) where
-  pub row_lies : HasContent texts ls fs n → Lies texts place long
-  row_lies w = rw (p, k) w
-
   module _ (content : List ℕ) (e : content ≡ part_in texts place long) where
     is : content ≡ content_at texts ls fs n
     is = rw (e, p, k)
@@ -52,7 +32,7 @@ module _ (texts : List (List ℕ)) (ls fs : List ℕ) (r n place long : ℕ) (p 
         → Put o o' at next (line (row_at texts ls fs r n))
     row_put {o} {o'} {at} {next} w = subst (λ (c : List ℕ). Put o o' at next (line (record { number = n; parent = r; content = c }))) is w
 
-pub ruleset rowings = (row_lies, row_room, row_put, rules)
+pub ruleset rowings = (row_room, row_put, rules)
 
 -- ---- a stored table
 

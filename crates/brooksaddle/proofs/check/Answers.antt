@@ -1,16 +1,10 @@
 -- The proof of `check`: what reading told, and the greatest depth, are what the call promises (Told). Assumes nothing.
-use Rattle.brooksaddle.proofs.Told.{tellings}
-use borrow.Author.Rules.{rules}
+use Rattle.std.proofs.Common.{refl}
+use Rattle.brooksaddle.proofs.Told.{check_climbs, check_accepted}
 use Rattle.brooksaddle.proofs.check.Goals as goal
 
-pub read_table-read-requires : goal.read_table-read-requires
-read_table-read-requires c = search rules
+pub deepest-requires : goal.deepest-requires
+deepest-requires c = check_climbs _ _ _ _ c.in-Ok.ensures refl
 
-pub returns-then-code-ne-ACCEPTED : goal.returns-then-code-ne-ACCEPTED
-returns-then-code-ne-ACCEPTED c = search tellings
-
-pub deepest-depth-requires : goal.deepest-depth-requires
-deepest-depth-requires c = search tellings
-
-pub returns : goal.returns
-returns c = search tellings
+pub returns-in-Ok : goal.returns-in-Ok
+returns-in-Ok c = check_accepted _ _ _ _ c.in-Ok.ensures refl _ _ _ refl refl c.deepest.ensures

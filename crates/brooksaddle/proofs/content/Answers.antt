@@ -1,26 +1,13 @@
 -- The proof of `content`: the part that is cut out is the part that was told, and lies in the text. Assumes nothing.
-use mathlib.Core.Path.{refl}
-use native.Mathlib.Omega.{arith}
+use Rattle.std.proofs.Common.{refl, arith}
 use Rattle.brooksaddle.proofs.Told.{part_in_lem, hands_back}
-use borrow.Author.Rules.{rules}
 use Rattle.brooksaddle.proofs.content.Goals as goal
-
-pub content_part-part-requires : goal.content_part-part-requires
-content_part-part-requires c = search rules
 
 pub overflow_add-end : goal.overflow_add-end
 overflow_add-end c =
     let s = c.args in
     let within = part_in_lem s.text.now s.number _ c.content_part-part.ensures in
-    record {
-      fits = omega (arith, within);
-    }
-
-pub slice_bounds-result-count : goal.slice_bounds-result-count
-slice_bounds-result-count c = search rules
-
-pub slice_bounds-result-start : goal.slice_bounds-result-start
-slice_bounds-result-start c = search rules
+    record { fits = omega (arith, within) }
 
 pub slice_bounds-result-end : goal.slice_bounds-result-end
 slice_bounds-result-end c =

@@ -1,37 +1,35 @@
 -- The proof of `merge`: the texts are read, then refused or merged. Assumes nothing.
-use mathlib.Core.Path.{refl}
-use Rattle.brooksaddle.proofs.Merging.{none_read, merge_unread, merge_ready, merge_read}
-use borrow.Author.Rules.{rules}
+use Rattle.std.proofs.Common.{◌≡◌, ◌∙◌, sym, List, ◌∷◌, [], ℕ, refl, subst}
+use Rattle.facts.specs.Inputs.{lines_of, facts_of, counts_of}
+use Rattle.table.specs.All.{refused_by, ReadsAll}
+use Rattle.table.proofs.Steps.{fault_coded}
+use Rattle.merge.specs.Merging.{MergesTables}
+use Rattle.std.specs.Prelude.{Ok, Err}
+use Rattle.brooksaddle.proofs.Merging.{merge_unread, merge_ready, merge_read}
 use Rattle.brooksaddle.proofs.merge.Goals as goal
 
-pub slice_bounds-read_all-end : goal.slice_bounds-read_all-end
-slice_bounds-read_all-end c = search rules
-
-pub read_all-read-requires : goal.read_all-read-requires
-read_all-read-requires c = (refl, none_read)
-
-pub refused-requires : goal.refused-requires
-refused-requires c = search rules
-
-pub returns-then-code-ne-ACCEPTED : goal.returns-then-code-ne-ACCEPTED
-returns-then-code-ne-ACCEPTED c =
-    merge_unread _ _ _ _ _ _ _ c.read_all-read.ensures _ _ _ _ _ _ refl refl refl c.if-code-ne-ACCEPTED.true
-    c.refused.ensures
-
-pub slice_bounds-merge_tables-end : goal.slice_bounds-merge_tables-end
-slice_bounds-merge_tables-end c = search rules
-
 pub merge_tables-requires : goal.merge_tables-requires
-merge_tables-requires c =
-    (merge_ready _ _ _ _ _ _ _ c.read_all-read.ensures c.if-code-ne-ACCEPTED.false, refl)
+merge_tables-requires c = rw c.in-Ok.ensures.texts (merge_ready _ _ _ _ _ _ _ c.in-Ok.ensures.read refl)
 
-pub shape_of-table : goal.shape_of-table
-shape_of-table c = search rules
+pub returns-in-Ok : goal.returns-in-Ok
+returns-in-Ok c =
+    let i = c.read_all.new.inputs in
+    let texts : List (List ℕ) = c.args.old.now ∷ c.args.first.now ∷ c.args.second.now ∷ [] in
+    let own : c.unread.result.text.now ∷ c.unread-2.result.text.now ∷ c.unread-3.result.text.now ∷ [] ≡ texts =
+    λ j. (c.unread.ensures.text j).now ∷ (c.unread-2.ensures.text j).now ∷ (c.unread-3.ensures.text j).now ∷ [] in
+    merge_read _ _ _ _ _ _ _
+    (subst (λ (ts : List (List ℕ)). ReadsAll ts (lines_of i) (facts_of i) (counts_of i) (refused_by (Ok tt))) own c.in-Ok.ensures.read)
+    refl _ _ _ _ _
+    (subst (λ (ts : List (List ℕ)). MergesTables ts (lines_of i) (facts_of i) (counts_of i) c.args.table.now c.args.ledger.now
+    c.merge_tables.result c.merge_tables.new.table c.merge_tables.new.ledger) (c.in-Ok.ensures.texts ∙ own) c.merge_tables.ensures)
 
-pub shape_of-ledger : goal.shape_of-ledger
-shape_of-ledger c = search rules
-
-pub returns : goal.returns
-returns c =
-    merge_read _ _ _ _ _ _ _ c.read_all-read.ensures
-    c.if-code-ne-ACCEPTED.false _ _ _ _ _ c.merge_tables.ensures
+pub returns-in-Err : goal.returns-in-Err
+returns-in-Err c =
+    let i = c.read_all.new.inputs in
+    let texts : List (List ℕ) = c.args.old.now ∷ c.args.first.now ∷ c.args.second.now ∷ [] in
+    let own : c.unread.result.text.now ∷ c.unread-2.result.text.now ∷ c.unread-3.result.text.now ∷ [] ≡ texts =
+    λ j. (c.unread.ensures.text j).now ∷ (c.unread-2.ensures.text j).now ∷ (c.unread-3.ensures.text j).now ∷ [] in
+    merge_unread _ _ _ _ _ _ _
+    (subst (λ (ts : List (List ℕ)). ReadsAll ts (lines_of i) (facts_of i) (counts_of i) (refused_by (Err c.in-Err.z))) own
+    c.in-Err.ensures.read)
+    _ _ _ _ _ _ c.from.ensures refl refl (λ e. fault_coded c.in-Err.z.why.fault (sym c.from.ensures ∙ e)) c.refused.ensures

@@ -1,25 +1,13 @@
 -- The proof of `tidy`: what was read, and what was written of it, is what the call promises (Told). Assumes nothing.
-use Rattle.brooksaddle.proofs.Told.{tellings}
-use borrow.Author.Rules.{rules}
+use Rattle.std.proofs.Common.{refl}
+use Rattle.brooksaddle.proofs.Told.{tidy_short, tidy_ready, tidy_accepted}
 use Rattle.brooksaddle.proofs.tidy.Goals as goal
 
-pub read_table-read-requires : goal.read_table-read-requires
-read_table-read-requires c = search rules
-
-pub returns-then-code-ne-ACCEPTED : goal.returns-then-code-ne-ACCEPTED
-returns-then-code-ne-ACCEPTED c = search tellings
-
 pub returns-then-buffer-length : goal.returns-then-buffer-length
-returns-then-buffer-length c = search tellings
-
-pub slice_bounds-write_table-end : goal.slice_bounds-write_table-end
-slice_bounds-write_table-end c = search rules
+returns-then-buffer-length c = tidy_short _ _ _ _ c.in-Ok.ensures refl _ c.if-buffer-length.true
 
 pub write_table-requires : goal.write_table-requires
-write_table-requires c = search tellings
-
-pub shape_of-buffer : goal.shape_of-buffer
-shape_of-buffer c = search rules
+write_table-requires c = tidy_ready _ _ _ _ c.in-Ok.ensures refl _ c.if-buffer-length.false
 
 pub returns : goal.returns
-returns c = search tellings
+returns c = tidy_accepted _ _ _ _ c.in-Ok.ensures refl _ _ _ refl c.if-buffer-length.false c.write_table.ensures

@@ -1,12 +1,9 @@
 -- The proof of `kept_after`: one branch after the other, until one has an edit. Assumes nothing.
-use Prim.Native.Nat.{◌-◌}
-use Rattle.facts.specs.Memory.{TABLES}
+use Rattle.std.proofs.Common.{◌+◌}
+use Rattle.facts.specs.Inputs.{lines_of, facts_of}
 use Rattle.edits.specs.Memory.{ask}
 use Rattle.edits.proofs.Ways.{Going}
 use Rattle.edits.proofs.kept_after.Given as goal
 
 abbrev pub invariant-loop-t : goal.invariant-loop-t
-invariant-loop-t l = Going (ask l.lines l.facts) l.r.number l.p.number l.o.number l.kept l.t
-
-abbrev pub decreases-loop-t : goal.decreases-loop-t
-decreases-loop-t l = TABLES - l.t
+invariant-loop-t l = Going (ask (lines_of l.inputs) (facts_of l.inputs)) l.r.number l.p.number l.o.number l.kept (l.t-index + 1)

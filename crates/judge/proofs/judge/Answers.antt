@@ -1,88 +1,63 @@
--- The proof of `judge`: the clashes, then the walk, then what it shows. Assumes nothing.
-use mathlib.Core.Path.{◌≡◌, ◌∙◌}
-use mathlib.Core.List.{List, map}
-use Prim.Native.Nat.{ℕ}
-use lib.ListN.{length, length-map}
-use Rattle.facts.specs.Memory.{TABLES}
-use Rattle.judge.proofs.Judging.{judged_clash, judged_broken, judged-lost, judged-tree, first_few, refused_few}
-use borrow.Author.Rules.{rules}
+-- The proof of `judge`: the clashes, then the walk, then what it shows. What `?` hands out is the refusal that it was given. Assumes
+-- nothing.
+use Rattle.std.proofs.Common.{◌∙◌}
+use Rattle.std.proofs.lemmas.List.{length-map}
+use Rattle.std.proofs.lemmas.Result.{err_from_is_err_and}
+use Rattle.facts.specs.Inputs.{texts_of, lines_of, facts_of, counts_of}
+use Rattle.rules.specs.declared.kinds.Clash.TheVariants.{Content, Parent, Neighbour, BrokenList, LostEdit}
+use Rattle.judge.proofs.Judging.{none_told, judged_content, judged_parent, judged_neighbour, judged_broken, judged-lost, judged-tree}
 use Rattle.judge.proofs.judge.Goals as goal
 
-pub least_clashes-least-requires : goal.least_clashes-least-requires
-least_clashes-least-requires c = search rules
+pub returns-in_err-none_at-clause-judges : goal.returns-in_err-none_at-clause-judges
+returns-in_err-none_at-clause-judges c =
+    let i = c.args.marked.news.inputs.now in
+    let p = err_from_is_err_and c.from_residual.result c.from_residual.ensures.1 in
+    rw (p.1, p.2) (judged_content (texts_of i) (lines_of i) (facts_of i) (counts_of i) (length-map i.tables _ ∙ c.args.marked.many)
+    c.least_clashes-least.result c.least_clashes-least.ensures _ _ _ c.in_err-none_at.ensures)
 
-pub first_clash-clash-requires : goal.first_clash-clash-requires
-first_clash-clash-requires c = search rules
+pub returns-in_err-none_at-2-clause-judges : goal.returns-in_err-none_at-2-clause-judges
+returns-in_err-none_at-2-clause-judges c =
+    let i = c.args.marked.news.inputs.now in
+    let p = err_from_is_err_and c.from_residual-in_err-none_at-2.result c.from_residual-in_err-none_at-2.ensures.1 in
+    rw (p.1, p.2) (judged_parent (texts_of i) (lines_of i) (facts_of i) (counts_of i) (length-map i.tables _ ∙ c.args.marked.many)
+    c.least_clashes-least.result c.least_clashes-least.ensures (none_told Content _ _ c.in_ok-none_at.ensures) _ _ _
+    c.in_err-none_at-2.ensures)
 
-pub returns-then-clash-ne-ACCEPTED : goal.returns-then-clash-ne-ACCEPTED
-returns-then-clash-ne-ACCEPTED c =
-    let texts : List (List ℕ) = map (λ x. x.now) c.args.texts.now in
-    let long : length texts ≡ TABLES = length-map c.args.texts.now (λ x. x.now) ∙ c.requires.by_index.1 in
-    record {
-      judges =
-          judged_clash texts c.args.lines.now c.args.facts.now c.args.counts.now long
-          c.least_clashes-least.result c.least_clashes-least.ensures
-          c.args.ls.now c.args.fs.now c.first_clash-clash.result c.first_clash-clash.ensures
-          c.if-clash-ne-ACCEPTED.true;
-      count_bound = first_few c.least_clashes-least.result _ c.first_clash-clash.ensures;
-    }
+pub returns-in_err-none_at-3-clause-judges : goal.returns-in_err-none_at-3-clause-judges
+returns-in_err-none_at-3-clause-judges c =
+    let i = c.args.marked.news.inputs.now in
+    let p = err_from_is_err_and c.from_residual-in_err-none_at-3.result c.from_residual-in_err-none_at-3.ensures.1 in
+    rw (p.1, p.2) (judged_neighbour (texts_of i) (lines_of i) (facts_of i) (counts_of i) (length-map i.tables _ ∙ c.args.marked.many)
+    c.least_clashes-least.result c.least_clashes-least.ensures (none_told Content _ _ c.in_ok-none_at.ensures)
+    (none_told Parent _ _ c.in_ok-none_at-2.ensures) _ _ _ c.in_err-none_at-3.ensures)
 
-pub open-requires : goal.open-requires
-open-requires c = search rules
+pub returns-in_err-none_at-4-clause-judges : goal.returns-in_err-none_at-4-clause-judges
+returns-in_err-none_at-4-clause-judges c =
+    let i = c.args.marked.news.inputs.now in
+    let p = err_from_is_err_and c.from_residual-in_err-none_at-4.result c.from_residual-in_err-none_at-4.ensures.1 in
+    rw (p.1, p.2) (judged_broken (texts_of i) (lines_of i) (facts_of i) (counts_of i) (length-map i.tables _ ∙ c.args.marked.many)
+    c.least_clashes-least.result c.least_clashes-least.ensures (none_told Content _ _ c.in_ok-none_at.ensures)
+    (none_told Parent _ _ c.in_ok-none_at-2.ensures) (none_told Neighbour _ _ c.in_ok-none_at-3.ensures) _ _ _ _ _
+    (c.open.ensures.lines_same ∙ c.requires.0) c.requires.1 c.open.ensures.facts_after _ _
+    c.lay_down-laid.ensures.laid_down _ c.in_err-none_at-4.ensures)
 
-pub lay_down-laid-requires : goal.lay_down-laid-requires
-lay_down-laid-requires c = search rules
+pub returns-in_err-none_at-5-clause-judges : goal.returns-in_err-none_at-5-clause-judges
+returns-in_err-none_at-5-clause-judges c =
+    let i = c.args.marked.news.inputs.now in
+    let p = err_from_is_err_and c.from_residual-in_err-none_at-5.result c.from_residual-in_err-none_at-5.ensures.1 in
+    rw (p.1, p.2) (judged-lost (texts_of i) (lines_of i) (facts_of i) (counts_of i) (length-map i.tables _ ∙ c.args.marked.many)
+    c.least_clashes-least.result c.least_clashes-least.ensures (none_told Content _ _ c.in_ok-none_at.ensures)
+    (none_told Parent _ _ c.in_ok-none_at-2.ensures) (none_told Neighbour _ _ c.in_ok-none_at-3.ensures) _ _ _ _ _
+    (c.open.ensures.lines_same ∙ c.requires.0) c.requires.1 c.open.ensures.facts_after _ _
+    c.lay_down-laid.ensures.laid_down
+    (none_told BrokenList _ _ c.in_ok-none_at-4.ensures) _ c.least_lost.ensures _ c.in_err-none_at-5.ensures)
 
-pub refused-requires : goal.refused-requires
-refused-requires c = search rules
-
-pub returns-then-broken-ne-NONE : goal.returns-then-broken-ne-NONE
-returns-then-broken-ne-NONE c =
-    let texts : List (List ℕ) = map (λ x. x.now) c.args.texts.now in
-    let long : length texts ≡ TABLES = length-map c.args.texts.now (λ x. x.now) ∙ c.requires.by_index.1 in
-    record {
-      judges =
-          judged_broken texts _ _ _ long _ c.least_clashes-least.ensures _ c.first_clash-clash.ensures
-          c.if-clash-ne-ACCEPTED.false _ _ _ _ _
-          c.requires.ls_value.0 c.requires.ls_value.1 c.open.ensures _ _ c.lay_down-laid.ensures.laid_down _ c.if-broken-ne-NONE.true
-          c.refused.ensures;
-      count_bound = refused_few _ _ _ c.refused.ensures;
-    }
-
-pub least_lost-lost-requires : goal.least_lost-lost-requires
-least_lost-lost-requires c =
-    record {
-      by_index = c.requires.by_index.0;
-      lined = c.requires.lined;
-      marked = c.requires.marked;
-    }
-
-pub refused-requires-then-lost-ne-NONE : goal.refused-requires-then-lost-ne-NONE
-refused-requires-then-lost-ne-NONE c = search rules
-
-pub returns-then-lost-ne-NONE : goal.returns-then-lost-ne-NONE
-returns-then-lost-ne-NONE c =
-    let texts : List (List ℕ) = map (λ x. x.now) c.args.texts.now in
-    let long : length texts ≡ TABLES = length-map c.args.texts.now (λ x. x.now) ∙ c.requires.by_index.1 in
-    record {
-      judges =
-          judged-lost texts _ _ _ long _ c.least_clashes-least.ensures _ c.first_clash-clash.ensures
-          c.if-clash-ne-ACCEPTED.false _ _ _ _ _
-          c.requires.ls_value.0 c.requires.ls_value.1 c.open.ensures _ _ c.lay_down-laid.ensures.laid_down
-          c.if-broken-ne-NONE.false _ c.least_lost-lost.ensures _ c.if-lost-ne-NONE.true
-          c.refused-then-lost-ne-NONE.ensures;
-      count_bound = refused_few _ _ _ c.refused-then-lost-ne-NONE.ensures;
-    }
-
-pub returns : goal.returns
-returns c =
-    let texts : List (List ℕ) = map (λ x. x.now) c.args.texts.now in
-    let long : length texts ≡ TABLES = length-map c.args.texts.now (λ x. x.now) ∙ c.requires.by_index.1 in
-    record {
-      judges =
-          judged-tree texts _ _ _ long _ c.least_clashes-least.ensures _ c.first_clash-clash.ensures
-          c.if-clash-ne-ACCEPTED.false _ _ _ _ _
-          c.requires.ls_value.0 c.requires.ls_value.1 c.open.ensures _ _ c.lay_down-laid.ensures.laid_down
-          c.if-broken-ne-NONE.false _ c.least_lost-lost.ensures c.if-lost-ne-NONE.false;
-      count_bound = c.lay_down-laid.ensures.count_bound;
-    }
+pub returns-clause-judges : goal.returns-clause-judges
+returns-clause-judges c =
+    let i = c.args.marked.news.inputs.now in
+    judged-tree (texts_of i) (lines_of i) (facts_of i) (counts_of i) (length-map i.tables _ ∙ c.args.marked.many)
+    c.least_clashes-least.result c.least_clashes-least.ensures (none_told Content _ _ c.in_ok-none_at.ensures)
+    (none_told Parent _ _ c.in_ok-none_at-2.ensures) (none_told Neighbour _ _ c.in_ok-none_at-3.ensures) _ _ _ _ _
+    (c.open.ensures.lines_same ∙ c.requires.0) c.requires.1 c.open.ensures.facts_after _ _
+    c.lay_down-laid.ensures.laid_down
+    (none_told BrokenList _ _ c.in_ok-none_at-4.ensures) _ c.least_lost.ensures (none_told LostEdit _ _ c.in_ok-none_at-5.ensures)

@@ -1,10 +1,7 @@
--- The proof of `sum_lines`: each turn adds one line (Widths). Assumes nothing.
-use Prim.Native.Nat.{◌-◌}
-use Rattle.ledger.proofs.Widths.{Summing}
+-- The proof of `sum_lines`: each turn adds one line (Summing). Assumes nothing.
+use Rattle.facts.specs.Table.{facts_in}
+use Rattle.ledger.proofs.Summing.{Summing}
 use Rattle.ledger.proofs.sum_lines.Given as goal
 
-abbrev pub invariant-loop-l : goal.invariant-loop-l
-invariant-loop-l l = Summing l.facts l.count l.frames l.entries l.bytes l.l
-
-abbrev pub decreases-loop-l : goal.decreases-loop-l
-decreases-loop-l l = l.count - l.l
+abbrev pub invariant-loop-f : goal.invariant-loop-f
+invariant-loop-f l = Summing (facts_in l.table) l.frames l.entries l.bytes l.f-index

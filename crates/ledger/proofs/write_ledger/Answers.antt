@@ -1,32 +1,17 @@
-use Rattle.ledger.proofs.Going.{goings}
+use Rattle.std.proofs.Common.{arith}
+use Rattle.ledger.proofs.Going.{going_room, going_on, last-room, going_end}
 use Rattle.ledger.proofs.write_ledger.Goals as goal
 
-pub loop-l-init : goal.loop-l-init
-loop-l-init c = search goings
-
-pub overflow_add-l : goal.overflow_add-l
-overflow_add-l c = search goings
-
 pub write_entry-at-requires : goal.write_entry-at-requires
-write_entry-at-requires c = search goings
+write_entry-at-requires c =
+    going_room _ _ _ _ c.loop-f.invariant (omega arith) (c.lines_to-f-items.ensures.each _ _ (omega arith))
 
-pub loop-l-smaller : goal.loop-l-smaller
-loop-l-smaller c = search goings
-
-pub loop-l-preserved : goal.loop-l-preserved
-loop-l-preserved c = search goings
-
-pub overflow_cast-count : goal.overflow_cast-count
-overflow_cast-count c = search goings
-
-pub overflow_cast-bytes : goal.overflow_cast-bytes
-overflow_cast-bytes c = search goings
+pub loop-f-preserved : goal.loop-f-preserved
+loop-f-preserved c =
+    going_on _ _ _ _ c.loop-f.invariant (omega arith) (c.lines_to-f-items.ensures.each _ _ (omega arith)) c.write_entry-at.ensures
 
 pub write_total-requires : goal.write_total-requires
-write_total-requires c = search goings
-
-pub shape_of-out : goal.shape_of-out
-shape_of-out c = search goings
+write_total-requires c = last-room _ _ _ _ c.loop-f.invariant (omega arith)
 
 pub returns : goal.returns
-returns c = search goings
+returns c = going_end _ _ _ _ c.loop-f.invariant (omega arith) c.write_total.ensures

@@ -1,25 +1,38 @@
 -- `read_line` meets its contract. Assumes nothing.
-use native.Mathlib.Omega.{arith}
-use Rattle.line.proofs.Parting.{Cut, cut_is}
-use Rattle.line.proofs.Judging.{judges}
+use Rattle.std.proofs.lemmas.Result.{err_from_is_err_and}
+use Rattle.line.proofs.Judging.{Numbered, Parented, judges}
 use Rattle.line.proofs.read_line.Goals as goal
 
-pub returns-then-parts-ne-ACCEPTED : goal.returns-then-parts-ne-ACCEPTED
-returns-then-parts-ne-ACCEPTED c = search judges
+pub returns-in_err-ok_or : goal.returns-in_err-ok_or
+returns-in_err-ok_or c =
+    let p = c.in_ok-parts.ensures in
+    let n = c.in_err-ok_or.was in
+    let f = err_from_is_err_and c.from_residual-in_err-ok_or.result c.from_residual-in_err-ok_or.ensures.1 in
+    rw (f.1, f.2) (search judges)
 
 pub returns-then-not-is_record : goal.returns-then-not-is_record
-returns-then-not-is_record c = search judges
+returns-then-not-is_record c = let p = c.in_ok-parts.ensures in let n = c.in_ok-ok_or.was in search judges
 
-pub returns-then-parts-gt-GREATEST : goal.returns-then-parts-gt-GREATEST
-returns-then-parts-gt-GREATEST c = search judges
+pub returns-in_err-ok_or-2 : goal.returns-in_err-ok_or-2
+returns-in_err-ok_or-2 c =
+    let p = c.in_ok-parts.ensures in
+    let n = c.in_ok-ok_or.was in
+    let m = c.in_err-ok_or-2.was in
+    let a : Numbered c.args.rest.now c.in_ok-parts.parts c.in_ok-ok_or.field-0 = search judges in
+    let f = err_from_is_err_and c.from_residual-in_err-ok_or-2.result c.from_residual-in_err-ok_or-2.ensures.1 in
+    rw (f.1, f.2) (search judges)
 
 pub returns-then-not-content_fits : goal.returns-then-not-content_fits
-returns-then-not-content_fits c = search judges
-
-pub overflow_add-result : goal.overflow_add-result
-overflow_add-result c =
-    let good : Cut c.args.rest.now c.cut-parts.result = search cut_is in
-    omega (arith, good.high)
+returns-then-not-content_fits c =
+    let p = c.in_ok-parts.ensures in
+    let n = c.in_ok-ok_or.was in
+    let m = c.in_ok-ok_or-2.was in
+    let a : Parented c.args.rest.now c.in_ok-parts.parts c.in_ok-ok_or.field-0 c.in_ok-ok_or-2.field-0 = search judges in
+    search judges
 
 pub returns : goal.returns
-returns c = search judges
+returns c =
+    let p = c.in_ok-parts.ensures in
+    let n = c.in_ok-ok_or.was in
+    let m = c.in_ok-ok_or-2.was in
+    search judges

@@ -1,37 +1,43 @@
--- The proof of `merge_tables`: marked, judged, then refused or packed. Assumes nothing.
-use Rattle.merge.proofs.Merging.{pack_ready, ready_few, merges}
-use borrow.Author.Rules.{rules}
+-- The proof of `merge_tables`: marked, judged, then refused or packed (Merging). Assumes nothing.
+use Rattle.std.proofs.Common.{List, ℕ, subst}
+use Rattle.facts.specs.Table.{lines_in, facts_in}
+use Rattle.facts.specs.Inputs.{texts_of, lines_of, facts_of, counts_of}
+use Rattle.pack.specs.Packed.{Packs}
+use Rattle.merge.proofs.Merging.{ready_few, ready_lined, merge_refused, pack_ready, merge-packed}
 use Rattle.merge.proofs.merge_tables.Goals as goal
 
-pub mark_branches-requires : goal.mark_branches-requires
-mark_branches-requires c = search merges
+pub mark_branches-requires-clause-lined : goal.mark_branches-requires-clause-lined
+mark_branches-requires-clause-lined c =
+    let i = c.args.inputs.now in
+    ready_lined (texts_of i) (lines_of i) (facts_of i) (counts_of i) c.requires
 
-pub judge-judged-requires : goal.judge-judged-requires
-judge-judged-requires c =
+pub invariant_of-judge : goal.invariant_of-judge
+invariant_of-judge c =
+    let i = c.args.inputs.now in
     record {
-      by_index = (ready_few _ _ _ _ c.requires.0, c.requires.1);
-      ls_value = search merges;
-      lined = search merges;
-      marked = search merges;
-      noted = search merges;
+      many = c.texts-texts.ensures.many;
+      few = ready_few (texts_of i) (lines_of i) (facts_of i) (counts_of i) c.requires;
+      lined = ready_lined (texts_of i) (lines_of i) (facts_of i) (counts_of i) c.requires;
+      marked = c.mark_branches.ensures.marked;
     }
-
-pub refused-requires : goal.refused-requires
-refused-requires c = search rules
-
-pub returns-then-code-ne-ACCEPTED : goal.returns-then-code-ne-ACCEPTED
-returns-then-code-ne-ACCEPTED c = search merges
 
 pub pack-requires : goal.pack-requires
 pack-requires c =
-    pack_ready _ _ _ _ _ _ _ c.judge-judged.ensures.judges c.if-code-ne-ACCEPTED.false c.judge-judged.ensures.count_bound
-    c.requires.0
+    let i = c.args.inputs.now in
+    rw c.texts-texts.ensures.value (pack_ready (texts_of i) (lines_of i) (facts_of i) (counts_of i)
+    (lines_in c.judge.new.merged) (facts_in c.judge.new.merged) c.in-Ok.count c.in-Ok.ensures.judges c.in-Ok.ensures.count_bound c.requires)
 
-pub shape_of-table : goal.shape_of-table
-shape_of-table c = search rules
+pub returns-in-Ok : goal.returns-in-Ok
+returns-in-Ok c =
+    let i = c.args.inputs.now in
+    merge-packed (texts_of i) (lines_of i) (facts_of i) (counts_of i)
+    (lines_in c.judge.new.merged) (facts_in c.judge.new.merged) c.in-Ok.count c.in-Ok.ensures.judges c.in-Ok.ensures.count_bound
+    c.args.table.now c.args.ledger.now c.pack.result c.pack.new.out_table c.pack.new.ledger
+    (subst (λ (ts : List (List ℕ)). Packs ts (lines_in c.judge.new.merged) (facts_in c.judge.new.merged) c.in-Ok.count
+    c.args.table.now c.args.ledger.now c.pack.result c.pack.new.out_table c.pack.new.ledger) c.texts-texts.ensures.value c.pack.ensures)
 
-pub shape_of-ledger : goal.shape_of-ledger
-shape_of-ledger c = search rules
-
-pub returns : goal.returns
-returns c = search merges
+pub returns-in-Err : goal.returns-in-Err
+returns-in-Err c =
+    let i = c.args.inputs.now in
+    rw (c.refused.ensures, c.from.ensures) (merge_refused (texts_of i) (lines_of i) (facts_of i) (counts_of i)
+    (lines_in c.judge.new.merged) (facts_in c.judge.new.merged) c.args.table.now c.args.ledger.now c.in-Err.why c.in-Err.ensures.judges)

@@ -1,59 +1,17 @@
-use Rattle.merged.proofs.Turns.{turns}
+-- The proof of `lay_down`: each way on is a law of Turns. Assumes nothing.
+use Rattle.merged.proofs.Turns.{begun_at, turn_down, turn_up, all_laid}
 use Rattle.merged.proofs.lay_down.Goals as goal
 
-pub top-r-requires : goal.top-r-requires
-top-r-requires c = search turns
-
-pub start-p-requires : goal.start-p-requires
-start-p-requires c = search turns
-
 pub loop-lists-init : goal.loop-lists-init
-loop-lists-init c = search turns
-
-pub kept_after-s-requires : goal.kept_after-s-requires
-kept_after-s-requires c = search turns
-
-pub follows-requires : goal.follows-requires
-follows-requires c = search turns
-
-pub overflow_add-count : goal.overflow_add-count
-overflow_add-count c = search turns
-
-pub overflow_add-lists : goal.overflow_add-lists
-overflow_add-lists c = search turns
-
-pub lay_record-requires : goal.lay_record-requires
-lay_record-requires c = search turns
-
-pub start-p-requires-then-follows : goal.start-p-requires-then-follows
-start-p-requires-then-follows c = search turns
-
-pub loop-lists-smaller-then-follows : goal.loop-lists-smaller-then-follows
-loop-lists-smaller-then-follows c = search turns
+loop-lists-init c = begun_at _ _ _ _
 
 pub loop-lists-preserved-then-follows : goal.loop-lists-preserved-then-follows
-loop-lists-preserved-then-follows c = search turns
-
-pub is_end-requires : goal.is_end-requires
-is_end-requires c = search turns
-
-pub place-v-requires : goal.place-v-requires
-place-v-requires c = search turns
-
-pub smaller-broken-requires : goal.smaller-broken-requires
-smaller-broken-requires c = search turns
-
-pub overflow_sub-lists : goal.overflow_sub-lists
-overflow_sub-lists c = search turns
-
-pub parent-r-requires : goal.parent-r-requires
-parent-r-requires c = search turns
-
-pub loop-lists-smaller : goal.loop-lists-smaller
-loop-lists-smaller c = search turns
+loop-lists-preserved-then-follows c =
+    turn_down c.loop-lists.invariant _ c.loop-lists-test.true c.kept_after-s.ensures _ _ c.if-follows.ensures c.lay_record.ensures
 
 pub loop-lists-preserved : goal.loop-lists-preserved
-loop-lists-preserved c = search turns
+loop-lists-preserved c =
+    turn_up c.loop-lists.invariant _ c.loop-lists-test.true c.kept_after-s.ensures _ _ c.if-follows.ensures (cc) (cc)
 
-pub returns : goal.returns
-returns c = search turns
+pub returns-clause-laid_down : goal.returns-clause-laid_down
+returns-clause-laid_down c = all_laid c.loop-lists.invariant c.loop-lists-test.false

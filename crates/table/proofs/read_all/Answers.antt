@@ -1,41 +1,25 @@
-use Rattle.table.proofs.Turns.{turns}
+-- The proof of `read_all`: one table more, or the first that is refused (Turns). Assumes nothing.
+use Rattle.std.proofs.Common.{rules}
+use Rattle.facts.specs.Inputs.{texts_of}
+use Rattle.table.proofs.Turns.{reading-start, reading_unread, reading_refused, reading_on, texts_same}
 use Rattle.table.proofs.read_all.Goals as goal
 
-pub one_each-requires : goal.one_each-requires
-one_each-requires c = search turns
-
 pub loop-t-init : goal.loop-t-init
-loop-t-init c = search turns
+loop-t-init c = reading-start _ (search rules) c.requires
 
-pub text_of-text-requires : goal.text_of-text-requires
-text_of-text-requires c = search turns
+pub read_input-requires : goal.read_input-requires
+read_input-requires c = reading_unread (texts_of c.args.inputs.now) c.loop-t.input-items c.loop-t.t c.loop-t.invariant (search rules) _
 
-pub read_into-read-requires : goal.read_into-read-requires
-read_into-read-requires c = search turns
+pub returns-in-Err-clause-texts : goal.returns-in-Err-clause-texts
+returns-in-Err-clause-texts c =
+    texts_same (texts_of c.args.inputs.now) c.loop-t.input-items c.loop-t.t c.loop-t.invariant (search rules) _ _ c.in-Err.ensures.text
 
-pub overflow_add-result : goal.overflow_add-result
-overflow_add-result c = search turns
-
-pub overflow_cast-result : goal.overflow_cast-result
-overflow_cast-result c = search turns
-
-pub returns-then-code-ne-ACCEPTED : goal.returns-then-code-ne-ACCEPTED
-returns-then-code-ne-ACCEPTED c = search turns
-
-pub offset_bounds-counts-t : goal.offset_bounds-counts-t
-offset_bounds-counts-t c = search turns
-
-pub bounds-counts-t : goal.bounds-counts-t
-bounds-counts-t c = search turns
-
-pub overflow_add-t : goal.overflow_add-t
-overflow_add-t c = search turns
-
-pub loop-t-smaller : goal.loop-t-smaller
-loop-t-smaller c = search turns
+pub returns-in-Err-clause-read : goal.returns-in-Err-clause-read
+returns-in-Err-clause-read c =
+    reading_refused (texts_of c.args.inputs.now) c.loop-t.input-items c.loop-t.t c.loop-t.invariant (search rules) _ _ c.in-Err.ensures.text
+    c.in-Err.why c.in-Err.ensures.read
 
 pub loop-t-preserved : goal.loop-t-preserved
-loop-t-preserved c = search turns
-
-pub returns : goal.returns
-returns c = search turns
+loop-t-preserved c =
+    reading_on (texts_of c.args.inputs.now) c.loop-t.input-items c.loop-t.t c.loop-t.invariant (search rules) _ _ c.in_default.ensures.text
+    (search rules)

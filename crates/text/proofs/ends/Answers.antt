@@ -1,24 +1,8 @@
-use Rattle.text.proofs.Endings.{counts}
+-- `ends` meets its contract. Assumes nothing.
+use Rattle.std.proofs.Common.{rules, ◌≡◌, count_by, eqb}
+use Rattle.rules.specs.Text.{LF}
+use Rattle.text.proofs.Endings.{counted}
 use Rattle.text.proofs.ends.Goals as goal
-use Rattle.text.proofs.ends.Goals.{else-s-i-eq-LF, then-s-i-eq-LF}
-
-pub loop-i-init : goal.loop-i-init
-loop-i-init c = search counts
-
-pub bounds-s-i : goal.bounds-s-i
-bounds-s-i c = search counts
-
-pub overflow_add-n : goal.overflow_add-n
-overflow_add-n c = search counts
-
-pub overflow_add-i : goal.overflow_add-i
-overflow_add-i c = search counts
-
-pub loop-i-smaller : goal.loop-i-smaller
-loop-i-smaller c = search counts
-
-pub loop-i-preserved : goal.loop-i-preserved
-loop-i-preserved c = elim c.if-s-i-eq-LF.branch [ then-s-i-eq-LF w ↦ search counts | else-s-i-eq-LF w ↦ search counts ]
 
 pub returns : goal.returns
-returns c = search counts
+returns c = let e : c.count.result ≡ count_by (λ x. eqb x LF) c.args.s.now = search rules in rw (e, counted)

@@ -1,30 +1,18 @@
 -- `number_at` meets its contract. Assumes nothing.
-use Rattle.text.proofs.Decimals.{numbers}
+use Rattle.std.proofs.Common.{◌≡◌, ◌&&◌, ◌∙◌, leb, rules}
+use Rattle.rules.specs.Limits.{GREATEST}
+use Rattle.rules.specs.Text.{no_leading_zero}
+use Rattle.text.proofs.Decimals.{number_read}
 use Rattle.text.proofs.number_at.Goals as goal
-
-pub digits_from-digits-requires : goal.digits_from-digits-requires
-digits_from-digits-requires c = search numbers
-
-pub byte_at-requires : goal.byte_at-requires
-byte_at-requires c = search numbers
-
-pub plain-requires : goal.plain-requires
-plain-requires c = search numbers
-
-pub plain_rest-end-requires : goal.plain_rest-end-requires
-plain_rest-end-requires c = search numbers
-
-pub returns-then-plain : goal.returns-then-plain
-returns-then-plain c = search numbers
-
-pub no_leading_zero-requires : goal.no_leading_zero-requires
-no_leading_zero-requires c = search numbers
-
-pub returns-then-not-no_leading_zero : goal.returns-then-not-no_leading_zero
-returns-then-not-no_leading_zero c = search numbers
-
-pub returns-then-digits-gt-GREATEST : goal.returns-then-digits-gt-GREATEST
-returns-then-digits-gt-GREATEST c = search numbers
+use Rattle.text.proofs.number_at.Goals.{then-no_leading_zero, else-no_leading_zero}
 
 pub returns : goal.returns
-returns c = search numbers
+returns c = search (rules, number_read, decimal)
+  where
+    decimal : c.if-no_leading_zero.decimal ≡ (no_leading_zero c.split_at.result.0.now && leb c.digits_of-digits.result.value GREATEST)
+    decimal =
+        elim c.if-no_leading_zero.branch [
+          | then-no_leading_zero w ↦ rw (← c.no_leading_zero.ensures, w.if-no_leading_zero.true) w.decimal-is
+          | else-no_leading_zero w ↦
+              rw (← c.no_leading_zero.ensures, w.if-no_leading_zero.false) (w.decimal-is ∙ w.if-no_leading_zero.false)
+        ]

@@ -1,42 +1,30 @@
-use mathlib.Core.List.{map}
-use Rattle.contents.proofs.Marking.{marking_on, marking_end, noted, markings}
+-- The proof of `mark_branches`: one branch more, and all of them (Marking). Assumes nothing.
+use Rattle.std.proofs.Common.{refl, ◌∙◌, ◌+◌, arith, length-set}
+use Rattle.facts.specs.Inputs.{texts_of, lines_of, facts_of, counts_of}
+use Rattle.facts.proofs.Sides.{branch_at}
+use Rattle.contents.specs.Marks.{marks_of}
+use Rattle.contents.proofs.Marking.{marking_on, marking_end, noted}
 use Rattle.contents.proofs.marks.mark_branches.Goals as goal
-
-pub loop-t-init : goal.loop-t-init
-loop-t-init c = search markings
-
-pub offset_bounds-counts-t : goal.offset_bounds-counts-t
-offset_bounds-counts-t c = search markings
-
-pub bounds-counts-t : goal.bounds-counts-t
-bounds-counts-t c = search markings
-
-pub mark_branch-requires : goal.mark_branch-requires
-mark_branch-requires c =
-    let low = c.loop-t-test.true in
-    record {
-      t_bound = (low, (c.requires.by_index.0 _ low, c.requires.by_index.1));
-      lined_table = c.requires.lined.tables _ low;
-    }
-
-pub overflow_add-t : goal.overflow_add-t
-overflow_add-t c = search markings
-
-pub loop-t-smaller : goal.loop-t-smaller
-loop-t-smaller c = search markings
 
 pub loop-t-preserved : goal.loop-t-preserved
 loop-t-preserved c =
-    let s = c.args in
-    marking_on (map (λ x. x.now) s.texts.now) s.lines.now s.facts.now s.counts.now _ _ _
-    c.loop-t.invariant c.mark_branch.ensures.marks_after c.mark_branch.ensures.marked_table
+    let n = c.args.inputs.now in
+    let long = c.loop-t.invariant.0 in (
+      length-set c.loop-t.marks _ _ ∙ long,
+      marking_on (texts_of n) (lines_of n) (facts_of n) (counts_of n) c.loop-t.marks (c.loop-t.t-index + 1) _ _ _
+          (omega (arith, long, c.loop-t-test.true)) (branch_at _ _ _ _ c.loop-t-test.true refl refl) c.loop-t.invariant.1 c.count.ensures
+          c.mark_lines.ensures,
+    )
 
-pub returns : goal.returns
-returns c =
-    let a = c.args in
-    let marked = marking_end (map (λ x. x.now) a.texts.now) a.lines.now a.facts.now a.counts.now _ _ c.loop-t.invariant
-    c.loop-t-test.false in
-    record {
-      marked = marked;
-      noted = noted (map (λ x. x.now) a.texts.now) a.lines.now a.facts.now a.counts.now c.requires.lined _ marked;
-    }
+pub returns-clause-marked : goal.returns-clause-marked
+returns-clause-marked c =
+    let n = c.args.inputs.now in
+    marking_end (texts_of n) (lines_of n) (facts_of n) (counts_of n) (marks_of c.loop-t.marks) (c.loop-t.t-index + 1) c.loop-t.invariant.1
+    (omega (arith, c.loop-t-test.false))
+
+pub returns-clause-noted : goal.returns-clause-noted
+returns-clause-noted c =
+    let n = c.args.inputs.now in
+    noted (texts_of n) (lines_of n) (facts_of n) (counts_of n) c.requires.lined (marks_of c.loop-t.marks)
+    (marking_end (texts_of n) (lines_of n) (facts_of n) (counts_of n) (marks_of c.loop-t.marks) (c.loop-t.t-index + 1) c.loop-t.invariant.1
+    (omega (arith, c.loop-t-test.false)))

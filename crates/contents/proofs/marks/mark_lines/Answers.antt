@@ -1,30 +1,22 @@
-use Rattle.contents.proofs.Marking.{fills}
+-- The proof of `mark_lines`: one line more, and all of them (Marking). Assumes nothing.
+use Rattle.std.proofs.Common.{◌∙◌, arith, length-set}
+use Rattle.facts.specs.Inputs.{texts_of, lines_of, facts_of}
+use Rattle.contents.proofs.Marking.{fill_on, fill_end}
 use Rattle.contents.proofs.marks.mark_lines.Goals as goal
 
-pub one_each-requires : goal.one_each-requires
-one_each-requires c = search fills
-
-pub loop-i-init : goal.loop-i-init
-loop-i-init c = search fills
-
-pub mark_line-requires : goal.mark_line-requires
-mark_line-requires c =
-    record {
-      t_bound = search fills;
-      i_value = c.requires.lined_table.on_line_lem _ c.loop-i-test.true;
-    }
-
-pub bounds-row-i : goal.bounds-row-i
-bounds-row-i c = search fills
-
-pub overflow_add-i : goal.overflow_add-i
-overflow_add-i c = search fills
-
-pub loop-i-smaller : goal.loop-i-smaller
-loop-i-smaller c = search fills
-
-pub loop-i-preserved : goal.loop-i-preserved
-loop-i-preserved c = search fills
+pub loop-l-preserved : goal.loop-l-preserved
+loop-l-preserved c =
+    let n = c.args.inputs.now in
+    let done = c.loop-l.invariant in (
+      length-set c.loop-l.mark-items c.loop-l.l c.mark_line.result ∙ done.0,
+      fill_on (texts_of n) (lines_of n) (facts_of n) c.args.t.index c.loop-l.mark-items c.loop-l.l c.mark_line.result
+          (omega (arith, c.loop-l-test.true, c.loop-l.auto.mark-items)) done.1 c.mark_line.ensures,
+    )
 
 pub returns : goal.returns
-returns c = search fills
+returns c =
+    let n = c.args.inputs.now in
+    let done = c.loop-l.invariant in
+    fill_end (texts_of n) (lines_of n) (facts_of n) c.args.t.index c.loop-l.mark-items _ c.loop-l.l c.args.count
+    (omega (arith, c.loop-l.auto.l-end, c.loop-l.auto.mark-items)) done.1
+    (omega (arith, done.0, c.loop-l-test.false, c.loop-l.auto.mark-items))

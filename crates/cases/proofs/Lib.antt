@@ -1,0 +1,2 @@
+-- The parts of the cases.
+pub mod FirstPart
