@@ -1,40 +1,15 @@
--- How many digits a number has, and its digits, put into a buffer from the last to the first. n is the number, o the buffer, at the place
+-- The digits of a number, put into a buffer from the last to the first. n is the number, o the buffer, at the place
 -- of the first digit, to that of the digit put last, rest what of the number is not put yet. Assumes nothing.
 use mathlib.Core.Path.{◌≡◌, sym, ap, ◌∙◌}
 use mathlib.Core.Logic.{inr}
 use mathlib.Core.List.{List, [], ◌∷◌}
-use Prim.Native.Nat.{ℕ, suc, ◌+◌, ◌-◌, ◌/◌, ◌%◌, ◌<◌, ◌≤◌}
+use Prim.Native.Nat.{ℕ, suc, ◌+◌, ◌-◌, ◌/◌, ◌%◌, ◌<◌}
 use native.Mathlib.Omega.{arith}
 use lib.ListN.{set}
 use lib.Seq.{sets}
-use borrow.Author.Tests.{lt-ltb, le-ltb}
-use Rattle.rules.specs.Written.{last_digits, width}
+use Rattle.rules.specs.Written.{last_digits}
 use Rattle.readback.proofs.Decimals.{last_digits-length}
 use Rattle.bytes_out.proofs.Puts.{sets-append, sets_apart}
-
--- ---- how many
-
-pub width_1 : (n : ℕ) → n < 10 → 1 ≡ width n
-width_1 n h = rw (lt-ltb n 10 h)
-
-pub width_2 : (n : ℕ) → 10 ≤ n → n < 100 → 2 ≡ width n
-width_2 n l h = rw (le-ltb n 10 l, lt-ltb n 100 h)
-
-pub width_3 : (n : ℕ) → 100 ≤ n → n < 1000 → 3 ≡ width n
-width_3 n l h = rw (le-ltb n 10 (omega arith), le-ltb n 100 l, lt-ltb n 1000 h)
-
-pub width_4 : (n : ℕ) → 1000 ≤ n → n < 10000 → 4 ≡ width n
-width_4 n l h = rw (le-ltb n 10 (omega arith), le-ltb n 100 (omega arith), le-ltb n 1000 l, lt-ltb n 10000 h)
-
-pub width_5 : (n : ℕ) → 10000 ≤ n → n < 100000 → 5 ≡ width n
-width_5 n l h =
-    rw (le-ltb n 10 (omega arith), le-ltb n 100 (omega arith), le-ltb n 1000 (omega arith), le-ltb n 10000 l, lt-ltb n 100000 h)
-
-pub width_6 : (n : ℕ) → 100000 ≤ n → 6 ≡ width n
-width_6 n l =
-    rw (le-ltb n 10 (omega arith), le-ltb n 100 (omega arith), le-ltb n 1000 (omega arith), le-ltb n 10000 (omega arith), le-ltb n 100000 l)
-
--- ---- as the loop goes
 
 -- one more digit, in front of which j others are still to be put
 one_digit : (o : List ℕ) (at rest to j k : ℕ) → to ≡ at + j → k ≡ suc j

@@ -1,5 +1,6 @@
 // Bytes into a lent buffer: decimals, a content, the line of a row. Each call says exactly which bytes lie where afterwards; all others
 // stay as they were. `at` is the place of the first byte; each call answers the place after the last.
+// Buffer and place in one struct made writing a table's lines 5 to 28 in 100 slower.
 #![tactic(auto)]
 
 ghost use Rattle.std.specs.Prelude.{◌≡◌, ◌+◌, ◌≤◌, length};

@@ -2,36 +2,21 @@
 -- are those of all tables, n is a record, t and k are tables; v, z are answers. Assumes nothing.
 use mathlib.Core.Path.{◌≡◌, sym, ap, ◌∙◌}
 use mathlib.Core.Bool.{Bool, true, false, not, ◌&&◌}
-use mathlib.Core.List.{List, [], map}
+use mathlib.Core.List.{List, []}
 use Prim.Native.Nat.{ℕ, ◌+◌, ◌*◌, ◌<◌}
-use native.Mathlib.Omega.{arith}
-use denote.Ref.{Bor}
-use lib.ListN.{length, get_or}
+use lib.ListN.{get_or}
 use borrow.Author.Rules.{rules}
 use Rattle.rules.specs.Facts.{same_content}
-use Rattle.facts.specs.Memory.{TABLES, PLACE, LENGTH, SPAN, TEXTS, start_of, line_at, field_on, field}
+use Rattle.facts.specs.Memory.{TABLES, PLACE, LENGTH, SPAN, TEXTS, start_of, line_at, field}
 use Rattle.edits.specs.Branches.{first_branch, sum_branches}
-use Rattle.edits.proofs.Ways.{and_stop}
-use Rattle.text.proofs.Texts.{text_at_lem}
 use Rattle.trees.proofs.Lists.{is_true}
 use Rattle.contents.specs.Contents.{Told, fresh_content, content_source, two_contents, content_origin}
-use Rattle.contents.specs.Memory.{cut, content_on, tell, source_of, kept_place, kept_length}
+use Rattle.contents.specs.Memory.{content_on, tell, source_of, kept_place, kept_length}
 use Rattle.contents.specs.Marks.{edited_in, Noted}
 use Rattle.contents.proofs.Comparing.{equal_same}
 use Rattle.contents.proofs.Sources.{first-same, sum_same}
 
 -- ---- what a record holds
-
-module _ (texts : List (Bor (List ℕ))) (facts : List (List ℕ)) (t : ℕ) where
-  pub content_text : t < TABLES → length texts ≡ TABLES → t < length texts
-  content_text h e = omega arith
-
-  pub content-cut : (l : ℕ) (text c : List ℕ) (start long : ℕ) → text ≡ get_or (map (λ x. x.now) texts) t []
-      → start ≡ field_on (get_or facts t []) l PLACE → long ≡ field_on (get_or facts t []) l LENGTH
-      → c ≡ cut text start long → c ≡ content_on (map (λ x. x.now) texts) facts t l
-  content-cut l text c start long e s m h = h ∙ (λ i. cut (e i) (s i) (m i))
-
-pub ruleset cuts-on = (text_at_lem, content_text, content-cut, rules)
 
 module _ (texts lines facts : List (List ℕ)) (t n : ℕ) where
   pub content-line : (c : List ℕ) (l : ℕ) → l ≡ line_at (get_or lines t []) n → c ≡ content_on texts facts t l
@@ -41,9 +26,6 @@ module _ (texts lines facts : List (List ℕ)) (t n : ℕ) where
 pub ruleset tells = (content-line, rules)
 
 -- ---- two tests
-
-pub same_both : (a b c d : List ℕ) (z : Bool) → a ≡ c → b ≡ d → z ≡ same_content a b → z ≡ same_content c d
-same_both a b c d z e f h = h ∙ (λ i. same_content (e i) (f i))
 
 -- the second is asked only where the first passed
 pub then_not : (a b y z : Bool) → y ≡ a → y ≡ true → z ≡ b → not z ≡ (a && not b)
@@ -68,9 +50,6 @@ module _ (texts lines facts marks : List (List ℕ)) (o : Noted texts lines fact
   module _ (t : ℕ) (low : 0 < t) (high : t < TABLES) (y : Bool) (e : y ≡ edited_in lines marks t n) where
     edit : y ≡ fresh_content told t n
     edit = e ∙ o.edits t low high n
-
-    pub two_none : y ≡ false → false ≡ two_contents told t n
-    two_none f = and_stop (fresh_content told t n) _ y edit f
 
     pub two-asked : (k : ℕ) (z : Bool) → y ≡ true → k ≡ first_branch test
         → z ≡ same_content ((told t).content n) ((told k).content n) → not z ≡ two_contents told t n

@@ -3,7 +3,7 @@
 -- records each has, marks the marks and row those of one table. k and t are tables, i and l are lines, o is a line of old, n a record.
 -- Assumes nothing.
 use mathlib.Core.Path.{◌≡◌, refl, sym, ap, ◌∙◌, subst}
-use mathlib.Core.Bool.{Bool, true, false, not, ◌&&◌, ◌||◌}
+use mathlib.Core.Bool.{Bool, true, false, not, ◌&&◌}
 use mathlib.Core.List.Memᴰ.{head as here}
 use mathlib.Core.List.Memᴰ.{tail as there}
 use mathlib.Core.List.{List, [], ◌∷◌, ◌++◌, map-append}
@@ -13,7 +13,6 @@ use native.Mathlib.Decide.{ℕ_discrete}
 use lib.Dec.{eqb, ltb}
 use lib.ListN.{length, get_or, set, get_or-append, length-map}
 use lib.Seq.{get_or-set_same, get_or-set_other}
-use borrow.Author.Tests.{lt-ltb}
 use borrow.Author.Count.{below_more}
 use Rattle.rules.specs.Marks.{TOP, START}
 use Rattle.rules.specs.Line.{Row}
@@ -23,7 +22,7 @@ use Rattle.trees.proofs.Marks.{record_high}
 use Rattle.facts.specs.Memory.{TABLES, line_at}
 use Rattle.facts.specs.Holds.{Holds}
 use Rattle.facts.proofs.Shown.{top_line}
-use Rattle.edits.specs.Memory.{number_on, alike_on, unmoved}
+use Rattle.edits.specs.Memory.{number_on, unmoved}
 use Rattle.contents.specs.Contents.{fresh_content}
 use Rattle.contents.specs.Memory.{content_on, tell}
 use Rattle.contents.specs.Marks.{LinedTable, Lined, mark_of, mark_on, MarkedTable, Marked, edited_in, Noted}
@@ -31,37 +30,6 @@ use Rattle.contents.specs.Marks.{mark_number, row_of_marks, marks_of}
 use Rattle.contents.specs.declared.marks.Mark.{Mark}
 use Rattle.std.proofs.lemmas.List.{map-set}
 use Rattle.contents.specs.Tables.{SideBySide}
-
--- ---- the mark of a line
-
-module _ (texts lines facts : List (List ℕ)) (t i : ℕ) (own : line_at (get_or lines t []) (number_on facts t i) ≡ i) where
-  abbrev same : ℕ → ℕ → Bool
-  same l o = same_content (content_on texts facts t l) (content_on texts facts 0 o)
-
-  abbrev alike : ℕ → ℕ → Bool
-  alike l o = alike_on (get_or facts t []) (get_or facts 0 []) l o
-
-  -- the number of line l of the branch is on line o of old
-  abbrev mark_by : ℕ → ℕ → ℕ
-  mark_by l o = mark_of (ltb 0 l && not (ltb 0 o && same l o)) ((not (ltb 0 l) || ltb 0 o) && alike l o)
-
-  module _ (n o z : ℕ) (en : n ≡ number_on facts t i) (eo : o ≡ line_at (get_or lines 0 []) n) where
-    is_mark : mark_by i o ≡ mark_on texts lines facts t i
-    is_mark = λ j. mark_by (sym own j) ((eo ∙ ap (line_at (get_or lines 0 [])) en) j)
-
-    pub mark_top : (y : Bool) → i ≡ 0 → y ≡ alike i o → z ≡ mark_of false y → z ≡ mark_on texts lines facts t i
-    mark_top y e ey ez = ez ∙ ap (mark_of false) ey ∙ first i e ∙ is_mark
-      where
-        first : (l : ℕ) → l ≡ 0 → mark_of false (alike l o) ≡ mark_by l o
-        first l e = rw (e)
-
-    pub mark_new : (i ≡ 0 → ⊥) → o ≡ 0 → z ≡ mark_of true false → z ≡ mark_on texts lines facts t i
-    mark_new h e ez = ez ∙ sym (rw (lt-ltb 0 i (omega (arith, h)), e)) ∙ is_mark
-
-    pub mark-old : (y same? : Bool) → (i ≡ 0 → ⊥) → (o ≡ 0 → ⊥) → y ≡ alike i o → same? ≡ same i o → z ≡ mark_of (not same?) y
-        → z ≡ mark_on texts lines facts t i
-    mark-old y same? h g ey es ez =
-        ez ∙ (λ j. mark_of (not (es j)) (ey j)) ∙ sym (rw (lt-ltb 0 i (omega (arith, h)), lt-ltb 0 o (omega (arith, g)))) ∙ is_mark
 
 -- ---- all lines of a branch
 
@@ -97,9 +65,6 @@ module _ (texts lines facts : List (List ℕ)) (counts : List ℕ) where
     pub low : 0 < t
     pub done : (k : ℕ) → 0 < k → k < t → MarkedTable texts lines facts k (get_or counts k 0) (get_or marks k [])
 
-  pub marking_start : (marks : List (List ℕ)) → Marking marks 1
-  marking_start marks = record { low = omega arith; done = λ k l h. absurd (omega (arith, l, h)) }
-
   abbrev MarkedIn : List Mark → List (List Mark) → ℕ → ℕ → Type 0
   MarkedIn row marks s k = MarkedTable texts lines facts k (get_or counts k 0) (get_or (marks_of (set marks s row)) k [])
 
@@ -131,10 +96,6 @@ module _ (texts lines facts : List (List ℕ)) (counts : List ℕ) where
   marking_end marks t w h = record { branches = λ k l g. w.done k l (omega (arith, g, h)) }
 
 -- ---- what a mark says
-
-pub edited_is : (lines marks : List (List ℕ)) (t n l : ℕ) → l ≡ line_at (get_or lines t []) n
-    → eqb (get_or (get_or marks t []) l 0 % 2) 1 ≡ edited_in lines marks t n
-edited_is lines marks t n l e = ap (λ (j : ℕ). eqb (get_or (get_or marks t []) j 0 % 2) 1) e
 
 mark_edit : (edit alike : Bool) → eqb (mark_of edit alike % 2) 1 ≡ edit
 mark_edit true true = refl

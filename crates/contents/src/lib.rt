@@ -1,6 +1,5 @@
 // Contents of the tables side by side: which are edits, where two edits clash, and where the kept content of a record lies. Old is the
-// first
-// of the tables, the others are the branches; `news` has what is new on each line. n is a record, t and k are tables, l is a line.
+// first of the tables, the others are the branches; `news` has what is new on each line. n is a record, t and k are tables, l is a line.
 #![tactic(auto)]
 
 pub mod marks;
@@ -36,10 +35,7 @@ fn cut<'a>(text: &'a [u8], start: u32, long: u32) -> &'a [u8]
 {
     let from = start as usize;
     let end = from + long as usize;
-    if end <= text.len() {
-        return &text[from..end];
-    }
-    &text[0..0]
+    text.get(from..end).unwrap_or_default()
 }
 
 // ---- the tables
@@ -70,7 +66,7 @@ fn same_in(inputs: &Inputs, t: Side, k: Side, n: Record) -> bool
 
 // ---- edits
 
-// The first branch with an edit there, or old.
+// The first branch with an edit there, or old, whose content then stands.
 fn content_source(news: News, n: Record) -> Side
     ensures { result.index ≡ first_branch (λ k. edited_in (lines_of news.entry.inputs.now) (marks_of news.entry.marks.now) k n.number) }
 {
@@ -96,9 +92,8 @@ fn content_origin(news: News, n: Record) -> usize
 // An edit of branch `t` that is not the first branch's.
 fn two_contents(news: News, t: Side, n: Record) -> bool
     requires { 0 < t.index }
-    ensures { result ≡ two_contents (tell (texts_of news.entry.inputs.now) (lines_of news.entry.inputs.now) (facts_of
-        news.entry.inputs.now))
-        t.index n.number }
+    ensures { let inputs = news.entry.inputs.now in
+        result ≡ two_contents (tell (texts_of inputs) (lines_of inputs) (facts_of inputs)) t.index n.number }
 {
     if !news.edited(t, n) {
         return false;
@@ -110,8 +105,8 @@ fn two_contents(news: News, t: Side, n: Record) -> bool
 // The record, if two edits give it different contents.
 pub fn content_place(news: News, t: Side, n: Record) -> Option<Record>
     requires { 0 < t.index }
-    ensures { numbered result ≡ content_place (tell (texts_of news.entry.inputs.now) (lines_of news.entry.inputs.now)
-        (facts_of news.entry.inputs.now)) t.index n.number }
+    ensures { let inputs = news.entry.inputs.now in
+        numbered result ≡ content_place (tell (texts_of inputs) (lines_of inputs) (facts_of inputs)) t.index n.number }
 {
     place(two_contents(news, t, n), n)
 }

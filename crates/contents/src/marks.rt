@@ -87,8 +87,8 @@ fn mark_lines(inputs: &Inputs, t: Side, count: usize, row: &mut [Mark; ROOM])
 pub fn mark_branches(inputs: &Inputs, marks: &mut [[Mark; ROOM]; TABLES])
     requires few { (k : ℕ) → k < tables_of_memory → get_or (counts_of inputs.now) k 0 < room_of_memory }
     requires lined { Lined (lines_of inputs.now) (facts_of inputs.now) (counts_of inputs.now) }
-    ensures marked { AreMarked (texts_of inputs.now) (lines_of inputs.now) (facts_of inputs.now) (counts_of inputs.now) (marks_of
-        marks.new) }
+    ensures marked { AreMarked (texts_of inputs.now) (lines_of inputs.now) (facts_of inputs.now) (counts_of inputs.now)
+        (marks_of marks.new) }
     ensures noted { Noted (texts_of inputs.now) (lines_of inputs.now) (facts_of inputs.now) (marks_of marks.new) }
 {
     for t in Side::BRANCHES {
@@ -102,6 +102,7 @@ pub fn mark_branches(inputs: &Inputs, marks: &mut [[Mark; ROOM]; TABLES])
 #[derive(Clone, Copy)]
 pub struct News<'a> {
     pub inputs: &'a Inputs<'a>,
+    // Not in the inputs: they are noted while those are read.
     pub marks: &'a [[Mark; ROOM]; TABLES],
     ghost noted: { Noted (texts_of inputs.now) (lines_of inputs.now) (facts_of inputs.now) (marks_of marks.now) },
 }

@@ -1,8 +1,7 @@
 -- Climbing, step by step: steps enough change nothing, and a noted depth stays right. ls and fs are a table's arrays, l is a line, ds
 -- are the depths noted so far. Assumes nothing.
-use mathlib.Core.Path.{◌≡◌, sym, ap, ◌∙◌}
+use mathlib.Core.Path.{◌≡◌, refl, sym, ap, ◌∙◌}
 use mathlib.Core.List.{List}
-use Rattle.std.proofs.Common.{Option, None, Some}
 use Prim.Native.Nat.{ℕ, zero, suc, ◌+◌, ◌<◌, ◌≤◌}
 use native.Mathlib.Omega.{arith}
 use native.Mathlib.Numerals.{add-one}
@@ -71,24 +70,23 @@ module _ (ls fs : List ℕ) where
 
   -- ---- notes
 
-  pub noted_none : Noted ls fs (replicate ROOM None)
-  noted_none = record { right = λ l d e. absurd (blank ROOM l d e) }
+  pub noted_here : (ds : List ℕ) (l v : ℕ) → Noted ls fs ds → v ≡ get_or ds l 0 → 0 < v → v ≡ depth_on ls fs l
+  noted_here ds l v w e h = e ∙ w.right l (omega arith)
+
+  pub noted_none : Noted ls fs (replicate ROOM 0)
+  noted_none = record { right = λ l h. absurd (omega (arith, zeros ROOM l)) }
     where
-      blank : (n k d : ℕ) → get_or (replicate n None) k None ≡ Some d → ⊥
-      blank zero k d e = cc
-      blank (suc n) zero d e = cc
-      blank (suc n) (suc k) d e = blank n k d e
+      zeros : (n k : ℕ) → get_or (replicate {A = ℕ} n 0) k 0 ≡ 0
+      zeros zero k = refl
+      zeros (suc n) zero = refl
+      zeros (suc n) (suc k) = zeros n k
 
   -- one more depth is noted
-  pub noted_more : (ds : List (Option ℕ)) (l d : ℕ) → Noted ls fs ds → l < length ds → d ≡ depth_on ls fs l
-      → Noted ls fs (set ds l (Some d))
-  noted_more ds l d w h e = record { right = λ k x. go k x (ℕ_discrete k l) }
+  pub noted_more : (ds : List ℕ) (l d : ℕ) → Noted ls fs ds → l < length ds → d ≡ depth_on ls fs l → Noted ls fs (set ds l d)
+  noted_more ds l d w h e = record { right = λ k. go k (ℕ_discrete k l) }
     where
-      go : (k x : ℕ) → Dec (k ≡ l) → get_or (set ds l (Some d)) k None ≡ Some x → x ≡ depth_on ls fs k
-      go k x (yes q) i =
-          let s : get_or (set ds l (Some d)) k None ≡ Some d =
-          ap (λ (j : ℕ). get_or (set ds l (Some d)) j None) q ∙ get_or-set_same ds l (Some d) None h in
-          let f : x ≡ d = cc in f ∙ e ∙ ap (depth_on ls fs) (sym q)
-      go k x (no q) i = let s = get_or-set_other ds l k (Some d) None q in w.right k x (sym s ∙ i)
+      go : (k : ℕ) → Dec (k ≡ l) → 0 < get_or (set ds l d) k 0 → get_or (set ds l d) k 0 ≡ depth_on ls fs k
+      go k (yes q) i = ap (λ (j : ℕ). get_or (set ds l d) j 0) q ∙ get_or-set_same ds l d 0 h ∙ e ∙ ap (depth_on ls fs) (sym q)
+      go k (no q) i = let s = get_or-set_other ds l k d 0 q in s ∙ w.right k (omega arith)
 
-pub ruleset climbing = (climb_top, climb-le, up_lt, one_more, noted_more)
+pub ruleset climbing = (climb_top, climb-le, up_lt, one_more, noted_here, noted_more)

@@ -1,6 +1,6 @@
 -- The depth of the record on a line, by climbing to its parent's line, which is an earlier one. ls and fs are a table's arrays, l is a
 -- line, ds are the depths noted so far. Assumes nothing.
-use Rattle.std.specs.Prelude.{◌≡◌, cond, List, ℕ, zero, suc, max, ◌<◌, ◌≤◌, eqb, get_or, Option, None, Some}
+use Rattle.std.specs.Prelude.{◌≡◌, cond, List, ℕ, zero, suc, max, ◌<◌, ◌≤◌, eqb, get_or}
 use Rattle.facts.specs.Memory.{ROOM, PARENT, line_at, field_on}
 
 -- the line of the parent of the record on a line; 0 is the top's
@@ -26,6 +26,6 @@ pub record Climbs (ls fs : List ℕ) (l : ℕ) : Type 0 where
   pub room : l < ROOM
   pub up : (k : ℕ) → 0 < k → k ≤ l → up_line ls fs k < k
 
--- a depth that is noted is the line's
-pub record Noted (ls fs : List ℕ) (ds : List (Option ℕ)) : Type 0 where
-  pub right : (l d : ℕ) → get_or ds l None ≡ Some d → d ≡ depth_on ls fs l
+-- a depth that is noted is the line's; 0 is none
+pub record Noted (ls fs ds : List ℕ) : Type 0 where
+  pub right : (l : ℕ) → 0 < get_or ds l 0 → get_or ds l 0 ≡ depth_on ls fs l

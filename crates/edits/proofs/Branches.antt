@@ -8,7 +8,6 @@ use native.Mathlib.Decide.{ℕ_discrete}
 use native.Mathlib.Numerals.{suc-eq-add-one}
 use lib.Dec.{T}
 use mir.Facts.{and_yes, yes_and}
-use borrow.Author.Rules.{rules}
 use Rattle.facts.specs.Memory.{TABLES, BRANCHES}
 use Rattle.edits.specs.Branches.{first_from, first_branch, all_from, all_branches}
 use Rattle.edits.specs.Positions.{fresh}
@@ -108,5 +107,3 @@ module _ (v : ℕ → ℕ) (o : ℕ) where
   pub fresh_on : (t s : ℕ) (z : Bool) → Left (λ k. fresh o (v k)) t → t < TABLES → s ≡ v t → z ≡ fresh o s → z ≡ false
       → Left (λ k. fresh o (v k)) (t + 1)
   fresh_on t s z w h e f y = left-on (λ k. fresh o (v k)) t z w h (f ∙ ap (fresh o) e) y
-
-pub ruleset seeks = (left-start, left_here, left-on, left_end, fresh_here, fresh_on, rules)

@@ -26,7 +26,7 @@ use rules::record::Record;
 pub fn place(test: bool, n: Record) -> Option<Record>
     ensures { numbered result ≡ place test n.number }
 {
-    if test { Some(n) } else { None }
+    test.then_some(n)
 }
 
 // The lesser of two places.

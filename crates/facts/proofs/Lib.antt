@@ -1,9 +1,8 @@
--- One table in memory. What the code's questions and stores come to; then lists that hang together, and what one line more does to
--- them; then that memory holds a table, from no line on, and that it answers exactly as the table's facts say.
+-- One table in memory. Tables side by side; what the facts of the lines are as one list of numbers, and what stores come to; then lists
+-- that hang together, and what one line more does to them; then that memory holds a table, from no line on, and that it answers exactly as
+-- the table's facts say.
 pub mod Sides
-pub mod Asking
 pub mod Rows
-pub mod Storing
 pub mod Laying
 pub mod Strings
 pub mod Views

@@ -72,6 +72,7 @@ impl Facts {
 
 #[derive(Drop)]
 pub struct Table {
+    // No map and no tree of boxes: memory is fixed.
     pub lines: [u16; NUMBERS],
     pub facts: [Facts; ROOM],
 }
@@ -91,8 +92,7 @@ impl Table {
     }
 
     // The line of a number; 0 for the top, and for a number that is absent. No Option: what is asked of an absent number is asked of the
-    // top
-    // (line_at).
+    // top (line_at).
     pub fn line_of(&self, n: Record) -> usize
         ensures value { result ≡ line_at (lines_in self.now) n.number }
         ensures upper_bound { result < room_of_memory }
@@ -151,7 +151,8 @@ impl Table {
         self.facts_of(n).parent
     }
 
-    // who follows `p` under `r`; nobody, if none does
+    // Who follows `p` under `r`; nobody, if none does. The next question is its mirror: it differs in each mark and fact that it names, so
+    // one function for both would be given all of them.
     pub fn follower(&self, r: Record, p: Record) -> Record
         ensures { result.number ≡ (asked (lines_in self.now) (facts_in self.now)).after r.number p.number }
     {

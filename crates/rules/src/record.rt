@@ -17,9 +17,8 @@ impl Record {
 
     pub const END: Record = Record { number: 65537 };
 
-    // Nobody stands there. The top is nobody's neighbour, so its number is free to say that. No Option: Asked and the theorems exact and
-    // shown
-    // answer 0 there, and neighbours are compared with one another, nobody and END among them.
+    // Nobody stands there. The top is nobody's neighbour, so its number is free to say that. No Option: neighbours are compared with one
+    // another, nobody and END among them, and Asked and the theorems exact and shown answer 0 there.
     pub const NOBODY: Record = Record::TOP;
 
     pub fn is_record(self) -> bool

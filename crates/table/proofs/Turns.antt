@@ -7,7 +7,7 @@ use Prim.Native.Nat.{ℕ, suc, ◌+◌, ◌<◌, ◌≤◌}
 use native.Mathlib.Omega.{arith}
 use native.Mathlib.Numerals.{suc-eq-add-one}
 use denote.Ref.{Bor}
-use Rattle.std.specs.Prelude.{Ok, Err}
+use Rattle.std.specs.Prelude.{Err}
 use Rattle.std.proofs.lemmas.List.{map-set, set-get_or}
 use Rattle.facts.specs.Memory.{no_lines, no_facts}
 use Rattle.facts.specs.Table.{lines_in, facts_in}
@@ -210,9 +210,6 @@ reading-start xs long h = record {
 module _ (texts : List (List ℕ)) (xs : List Input) (t : ℕ) (w : Reading texts xs t) where
   many : length xs ≡ TABLES
   many = sym (length-map xs (λ (x : Input). x.count)) ∙ w.turn.counts_many
-
-  pub reading-end : TABLES ≤ t → ReadsAll texts (lines_of (all xs)) (facts_of (all xs)) (counts_of (all xs)) (refused_by (Ok tt))
-  reading-end h = turn_end texts _ _ _ t w.turn h
 
   pub reading_unread : (h : t < TABLES) (d : Input) → (lines_in (get_or xs t d).table ≡ no_lines) ×
       (facts_in (get_or xs t d).table ≡ no_facts)

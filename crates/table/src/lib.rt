@@ -100,7 +100,7 @@ pub fn read_table(text: &[u8], table: &mut Table) -> Result<usize, Unreadable>
 }
 
 // Reads the text of a table into its place.
-fn read_input(input: &mut Input) -> Result<(), Unreadable>
+pub fn read_input(input: &mut Input) -> Result<(), Unreadable>
     requires { (lines_in input.old.table ≡ no_lines) × (facts_in input.old.table ≡ no_facts) }
     ensures text { input.new.text ≡ input.old.text }
     ensures read { Reads input.old.text.now (lines_in input.new.table) (facts_in input.new.table) (counted result input.new.count) }

@@ -1,6 +1,6 @@
 use Rattle.write.proofs.Parts.{rowings}
 use Rattle.write.proofs.Turns.{lists, records}
-use Rattle.write.proofs.Source.+write_list_write_record.Goals as goal
+use Rattle.write.proofs.+write_list_write_record.Goals as goal
 
 pub write_list-write_record-q-requires : goal.write_list-write_record-q-requires
 write_list-write_record-q-requires t c = search lists

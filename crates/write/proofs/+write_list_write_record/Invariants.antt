@@ -3,7 +3,7 @@
 use Rattle.std.proofs.Common.{map, ◌+◌}
 use Rattle.facts.specs.Table.{lines_in, facts_in}
 use Rattle.write.proofs.Turns.{Reached}
-use Rattle.write.proofs.Source.+write_list_write_record.Given as goal
+use Rattle.write.proofs.+write_list_write_record.Given as goal
 
 abbrev pub decreases-write_list : goal.decreases-write_list
 decreases-write_list l = l.p.left + l.p.left + 1
@@ -13,7 +13,7 @@ decreases-write_record l = l.p.left + l.p.left
 
 abbrev pub invariant-write_list-loop-r : goal.invariant-write_list-loop-r
 invariant-write_list-loop-r l =
-    Reached (map (λ x. x.now) l.self.texts.now) (lines_in l.self.table.now) (facts_in l.self.table.now) l.r.number
+    Reached (map (λ x. x.now) l.texts) (lines_in l.table) (facts_in l.table) l.r.number
     l.initial.next.number l.initial.out l.initial.q.at l.initial.q.left l.next.number l.out l.q.at l.q.left
 
 abbrev pub decreases-write_list-loop-r : goal.decreases-write_list-loop-r
