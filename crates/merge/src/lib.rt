@@ -7,7 +7,7 @@ ghost use Rattle.rules.specs.Calls.{told};
 ghost use Rattle.facts.specs.Inputs.{texts_of, lines_of, facts_of, counts_of};
 ghost use Rattle.merge.specs.Merging.{Ready, MergesTables};
 
-use contents::marks::{Mark, Marked, News, mark_branches};
+use contents::marks::{Mark, mark_branches};
 use facts::inputs::Inputs;
 use facts::{ROOM, TABLES, Table};
 use judge::judge;
@@ -35,12 +35,8 @@ pub fn merge_tables(inputs: &Inputs, table: &mut [u8], ledger: &mut [u8]) -> Mer
     let texts = inputs.texts();
     let mut marks = [[Mark::NOTHING; ROOM]; TABLES];
     mark_branches(inputs, &mut marks);
-    let news = News {
-        inputs,
-        marks: &marks,
-    };
     let mut merged = Table::blank();
-    match judge(Marked { news }, &mut merged) {
+    match judge(inputs, &marks, &mut merged) {
         Ok(count) => pack(&texts[..], &merged, count, table, ledger),
         Err(why) => refused(u32::from(why.clash), 0, why.place.number),
     }

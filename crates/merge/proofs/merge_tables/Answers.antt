@@ -11,15 +11,15 @@ mark_branches-requires-clause-lined c =
     let i = c.args.inputs.now in
     ready_lined (texts_of i) (lines_of i) (facts_of i) (counts_of i) c.requires
 
-pub invariant_of-judge : goal.invariant_of-judge
-invariant_of-judge c =
+pub judge-requires-clause-few : goal.judge-requires-clause-few
+judge-requires-clause-few c =
     let i = c.args.inputs.now in
-    record {
-      many = c.texts-texts.ensures.many;
-      few = ready_few (texts_of i) (lines_of i) (facts_of i) (counts_of i) c.requires;
-      lined = ready_lined (texts_of i) (lines_of i) (facts_of i) (counts_of i) c.requires;
-      marked = c.mark_branches.ensures.marked;
-    }
+    ready_few (texts_of i) (lines_of i) (facts_of i) (counts_of i) c.requires
+
+pub judge-requires-clause-lined : goal.judge-requires-clause-lined
+judge-requires-clause-lined c =
+    let i = c.args.inputs.now in
+    ready_lined (texts_of i) (lines_of i) (facts_of i) (counts_of i) c.requires
 
 pub pack-requires : goal.pack-requires
 pack-requires c =

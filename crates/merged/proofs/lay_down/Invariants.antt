@@ -10,7 +10,7 @@ use Rattle.merged.proofs.lay_down.Given as goal
 
 abbrev pub invariant-loop-lists : goal.invariant-loop-lists
 invariant-loop-lists l =
-    let n = l.news.inputs.now in
+    let n = l.inputs in
     Outer (kept_next (lines_of n) (facts_of n)) (kept_part (texts_of n) (lines_of n) (facts_of n)) (lines_in l.initial.merged)
     (facts_in l.initial.merged) (lines_in l.merged) (facts_in l.merged) l.r.number l.p.number l.count l.lists (numbered l.broken)
 
