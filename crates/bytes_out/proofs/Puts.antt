@@ -44,12 +44,15 @@ pub put_byte : (o : List ℕ) (a x : ℕ) → Put o (set o a x) a (a + 1) (x ∷
 put_byte o a x = record { wrote = refl; place = refl; long = length-set o a x }
 
 -- a part of the buffer gets other bytes
+
+pub part_set : (o t : List ℕ) (at k : ℕ) (s : List ℕ) → t ≡ s → k ≡ length s → at + length s ≤ length o → put_mid at k o t ≡ sets o at s
+part_set o t at k s d e h = rw (d, e) (simp drop-drop (sym (simp append_assoc at (sets-eq s o at h))))
+
 pub put_part : (o t : List ℕ) (at k : ℕ) (s : List ℕ) → t ≡ s → k ≡ length s → at + length s ≤ length o
     → Put o (put_mid at k o t) at (at + length s) s
-put_part o t at k s d e h = record { wrote = same; place = refl; long = ap length same ∙ length-sets o at s }
-  where
-    same : put_mid at k o t ≡ sets o at s
-    same = rw (d, e) (simp drop-drop (sym (simp append_assoc at (sets-eq s o at h))))
+put_part o t at k s d e h =
+    let same = part_set o t at k s d e h in
+    record { wrote = same; place = refl; long = ap length same ∙ length-sets o at s }
 
 pub put_then : {o₀ o₁ o₂ : List ℕ} {a b c : ℕ} {s t : List ℕ} → Put o₀ o₁ a b s → Put o₁ o₂ b c t → Put o₀ o₂ a c (s ++ t)
 put_then {o₀} {o₁} {o₂} {a} {b} {c} {s} {t} p q = record {
