@@ -1,6 +1,7 @@
 -- The three buffers are filled one after another. fs are the files, b their buffers, n the counts of bytes read, t is a file; a name with
 -- a prime is what it is after a file was read. Assumes nothing.
 use mathlib.Core.Path.{◌≡◌, refl, sym, ap, ◌∙◌, subst}
+use mathlib.Core.Bool.{Bool, true, false}
 use mathlib.Core.List.{List, [], ◌∷◌}
 use Prim.Native.Nat.{ℕ, zero, suc, ◌+◌, ◌<◌, ◌≤◌}
 use native.Mathlib.Omega.{arith}
@@ -8,10 +9,12 @@ use lib.ListN.{length, get_or, set, take, length-set}
 use lib.Seq.{get_or-set_same, get_or-set_other}
 use borrow.Author.Count.{below_none, below_more}
 use Rattle.std.specs.Prelude.{map}
+use Rattle.std.specs.Option.{is_some}
 use Rattle.std.specs.Counts.{IsPrefixLen}
 use Rattle.demonstration.specs.declared.file.File.{File}
+use Rattle.demonstration.specs.Counted.{bytes_read}
 use Rattle.demonstration.specs.Printed.{Shows, printed}
-use Rattle.demonstration.specs.Files.{files, buffers, lengths, text_in, printed_of, Filled, ReadTo}
+use Rattle.demonstration.specs.Files.{files, buffers, lengths, which_read, text_in, printed_of, Filled, ReadTo, WereRead}
 
 -- ---- the files as they lie in memory
 
@@ -20,6 +23,10 @@ file_counted : (fs : List File) (t : ℕ) → IsPrefixLen (get_or (lengths fs) t
 file_counted [] t = (omega arith, refl)
 file_counted (f ∷ fs) zero = f.counted
 file_counted (f ∷ fs) (suc t) = file_counted fs t
+
+-- so of as many as are told
+pub all_counted : (fs : List File) (k : ℕ) → ReadTo (buffers fs) (lengths fs) k
+all_counted fs k = record { counted = λ t h. file_counted fs t }
 
 module _ {B : Type 0} (view : File → B) (d : B) where
   map-set : (fs : List File) (t : ℕ) (f : File) → t < length fs
@@ -35,7 +42,17 @@ filled fs t f h = record { counts = file_counted (set fs t f) t; others = map-se
 
 pub counted_there : (fs : List File) (t : ℕ) (f : File) → t < length fs
     → lengths (set fs t f) ≡ set (lengths fs) t (get_or (lengths (set fs t f)) t 0)
-counted_there fs t f h = map-set (λ f. f.length) 0 fs t f h
+counted_there fs t f h = map-set (λ f. bytes_read f.length) 0 fs t f h
+
+pub read_there : (fs : List File) (t : ℕ) (f : File) → t < length fs
+    → which_read (set fs t f) ≡ set (which_read fs) t (get_or (which_read (set fs t f)) t false)
+read_there fs t f h = map-set (λ f. is_some f.length) false fs t f h
+
+pub now_read : (fs : List File) (t : ℕ) (f : File) → t < length fs → is_some f.length ≡ true
+    → get_or (which_read (set fs t f)) t false ≡ true
+now_read [] t f h r = absurd (omega (arith, h))
+now_read (g ∷ fs) zero f h r = r
+now_read (g ∷ fs) (suc t) f h r = now_read fs t f (omega (arith, h)) r
 
 -- ---- one file after another
 
@@ -45,6 +62,30 @@ pub record Going (b : List (List ℕ)) (n : List ℕ) (t : ℕ) : Type 0 where
   pub counts : length n ≡ files
   pub read : ReadTo b n t
   pub bound : t ≤ files
+
+-- and each of them was read: r are the tests
+pub record Known (r : List Bool) (t : ℕ) : Type 0 where
+  pub tests : length r ≡ files
+  pub read : WereRead r t
+
+pub known_start : (r : List Bool) → length r ≡ files → Known r 0
+known_start r p = record { tests = p; read = record { each = below_none _ } }
+
+module _ (r : List Bool) (t : ℕ) (r' : List Bool) (w : r' ≡ set r t (get_or r' t false)) (k : Known r t) where
+  known_before : (u : ℕ) → u < t → get_or r' u false ≡ true
+  known_before u h =
+      ap (λ (x : List Bool). get_or x u false) w ∙ get_or-set_other r t u (get_or r' t false) false (λ e. omega (arith, e, h))
+      ∙ k.read.each u h
+
+  pub known_stop : WereRead r' t
+  known_stop = record { each = known_before }
+
+  pub known_on : t < files → get_or r' t false ≡ true → Known r' (t + 1)
+  known_on h e =
+      record {
+        tests = ap length w ∙ length-set r t (get_or r' t false) ∙ k.tests;
+        read = record { each = below_more _ t known_before e };
+      }
 
 pub going_start : (b : List (List ℕ)) (n : List ℕ) → length b ≡ files → length n ≡ files → Going b n 0
 going_start b n p q = record { buffers = p; counts = q; read = record { counted = below_none _ }; bound = omega arith }
@@ -85,4 +126,4 @@ shown-printed b n old first second k out p q r w = w.bytes ∙ λ i. printed (p 
 pub all_read : (b : List (List ℕ)) (n : List ℕ) (t : ℕ) → ReadTo b n t → t ≤ files → (t < files → ⊥) → ReadTo b n files
 all_read b n t w h end = record { counted = λ u l. w.counted u (omega (arith, h, l, end)) }
 
-pub ruleset fillings = (going_start, going_stop, going_on, all_read)
+pub ruleset fillings = (all_counted, going_start, going_stop, going_on, known_start, known_stop, known_on, all_read)

@@ -1,7 +1,9 @@
 -- The three files of the demonstration: old, first and second, each with a buffer of its own and the count of bytes that were read into
 -- it. t is a file. Assumes nothing.
-use Rattle.std.specs.Prelude.{◌≡◌, List, [], ℕ, ◌<◌, Result, Ok, Err, ⊤, map, get_or, set, take}
+use Rattle.std.specs.Prelude.{◌≡◌, Bool, true, false, List, [], ℕ, ◌<◌, Result, Ok, Err, ⊤, map, get_or, set, take}
+use Rattle.std.specs.Option.{is_some}
 use Rattle.std.specs.Counts.{IsPrefixLen}
+use Rattle.demonstration.specs.Counted.{bytes_read}
 use Rattle.demonstration.specs.Printed.{printed}
 use Rattle.demonstration.specs.declared.file.File.{File}
 
@@ -19,7 +21,11 @@ abbrev pub buffers : List File → List (List ℕ)
 buffers fs = map (λ f. f.bytes) fs
 
 abbrev pub lengths : List File → List ℕ
-lengths fs = map (λ f. f.length) fs
+lengths fs = map (λ f. bytes_read f.length) fs
+
+-- which of them were read
+abbrev pub which_read : List File → List Bool
+which_read fs = map (λ f. is_some f.length) fs
 
 -- how many files were read: all, or those before the one that is told
 abbrev pub count_read : Result ⊤ ℕ → ℕ
@@ -42,3 +48,7 @@ pub record Filled (buffers : List (List ℕ)) (t n : ℕ) (buffers' : List (List
 -- of the files before number k the bytes counted lie in their buffers
 pub record ReadTo (buffers : List (List ℕ)) (lengths : List ℕ) (k : ℕ) : Type 0 where
   pub counted : (t : ℕ) → t < k → IsPrefixLen (get_or lengths t 0) (get_or buffers t [])
+
+-- each file before number k was read
+pub record WereRead (read : List Bool) (k : ℕ) : Type 0 where
+  pub each : (t : ℕ) → t < k → get_or read t false ≡ true

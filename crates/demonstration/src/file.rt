@@ -1,8 +1,10 @@
 // A file as far as it was read.
 #![tactic(auto)]
 
-ghost use Rattle.std.specs.Prelude.{◌≡◌, OnErr, take};
+ghost use Rattle.std.specs.Prelude.{◌≡◌, true, OnErr, IfOk, take, Option, None};
+ghost use Rattle.std.specs.Option.{is_some};
 ghost use Rattle.std.specs.Counts.{IsPrefixLen};
+ghost use Rattle.demonstration.specs.Counted.{bytes_read};
 
 use crate::MOST_READ;
 use bytes_in::read_full;
@@ -10,38 +12,39 @@ use std::io::ErrorKind;
 use std::rt::Files;
 use std::{fs, io, str};
 
-// The buffer of a file, and how many bytes were read into it.
+// The buffer of a file, and how many bytes were read into it: None, unless the file was read.
 #[derive(Drop)]
 pub struct File {
     pub bytes: [u8; MOST_READ],
-    pub length: usize,
-    pub ghost counted: { IsPrefixLen length bytes },
+    pub length: Option<usize>,
+    pub ghost counted: { IsPrefixLen (bytes_read length) bytes },
 }
 
 impl File {
     pub fn unread() -> File
-        ensures { result.length ≡ 0 }
+        ensures { result.length ≡ None }
     {
         File {
             bytes: [0u8; MOST_READ],
-            length: 0,
+            length: None,
         }
     }
 
     // The text of the file: so many bytes of its buffer as were read.
     pub fn text(&self) -> &[u8]
-        ensures { result.now ≡ take self.now.length self.now.bytes }
+        ensures { result.now ≡ take (bytes_read self.now.length) self.now.bytes }
     {
-        &self.bytes[..self.length]
+        &self.bytes[..self.length.unwrap_or(0)]
     }
 
     // Reads the file of a name into the buffer; none of its bytes count where it can't be read. A folder can be opened, and not be read.
     pub fn read<R: Files>(&mut self, rt: &R, name: &[u8]) -> io::Result<()>
-        ensures { OnErr result (self.new.length ≡ 0) }
+        ensures read { IfOk result (λ _. is_some self.new.length ≡ true) }
+        ensures unread { OnErr result (self.new.length ≡ None) }
     {
-        self.length = 0;
+        self.length = None;
         let mut file = open_read(rt, name)?;
-        self.length = read_full(&mut file, &mut self.bytes)?;
+        self.length = Some(read_full(&mut file, &mut self.bytes)?);
         Ok(())
     }
 }

@@ -2,11 +2,12 @@
 // reads or writes; so what is printed of three texts is put into one buffer first, by `show`, whose contract says every byte of it.
 #![tactic(auto)]
 
-ghost use Rattle.std.specs.Prelude.{◌≡◌, [], ◌∷◌, ◌++◌, map, ◌+◌, ◌<◌, ◌≤◌, length, get_or, set, IfErr};
+ghost use Rattle.std.specs.Prelude.{◌≡◌, [], ◌∷◌, ◌++◌, map, ◌+◌, ◌<◌, ◌≤◌, true, false, length, get_or, set, IfOk, IfErr};
 ghost use Rattle.bytes_out.specs.Put.{Put};
 ghost use Rattle.rules.specs.Calls.{five_numbers};
 ghost use Rattle.demonstration.specs.Printed.{table_room, ledger_room, printed_room, numbers_length, Shows};
-ghost use Rattle.demonstration.specs.Files.{files as file_count, most_read, buffers, lengths, count_read, printed_of, Filled, ReadTo};
+ghost use Rattle.demonstration.specs.Files.{files as file_count, most_read, buffers, lengths, which_read, count_read, printed_of};
+ghost use Rattle.demonstration.specs.Files.{Filled, ReadTo, WereRead};
 
 mod file;
 
@@ -98,7 +99,10 @@ fn hand_over<R: Print>(rt: &R, files: &[File; FILES], part: &[u8]) -> io::Result
     rt.write_all(part)
 }
 
-fn print_merged<R: Print>(rt: &R, files: &[File; FILES]) -> io::Result<()> {
+// Merges the three files, each of which must have been read.
+fn print_merged<R: Print>(rt: &R, files: &[File; FILES]) -> io::Result<()>
+    requires { WereRead (which_read files.now) file_count }
+{
     let old = files[0].text();
     let first = files[1].text();
     let second = files[2].text();
@@ -130,6 +134,8 @@ fn read_named<R: Files>(
     requires { (t < file_count) × (name.now ≡ get_or (map (λ x. x.now) names.now) t []) }
     ensures filled { Filled (buffers files.old) t (get_or (lengths files.new) t 0) (buffers files.new) }
     ensures counted { lengths files.new ≡ set (lengths files.old) t (get_or (lengths files.new) t 0) }
+    ensures others { which_read files.new ≡ set (which_read files.old) t (get_or (which_read files.new) t false) }
+    ensures read { IfOk result (λ _. get_or (which_read files.new) t false ≡ true) }
 {
     files[t].read(rt, name)
 }
@@ -139,6 +145,7 @@ fn read_named<R: Files>(
 fn read_files<R: Files>(rt: &R, names: &[&[u8]], files: &mut [File; FILES]) -> Result<(), usize>
     requires { length names.now ≡ file_count }
     ensures read_to { ReadTo (buffers files.new) (lengths files.new) (count_read result) }
+    ensures were_read { WereRead (which_read files.new) (count_read result) }
     ensures upper_bound { IfErr result (λ t. t < file_count) }
 {
     for t in 0..FILES {
