@@ -1,23 +1,28 @@
--- Two contents are equal exactly if their bytes are; eight at a time, the last eight may be looked at even where some of them were before.
--- a and b are the contents, i is the count of bytes that are equal so far, k the place of the last eight. Assumes nothing.
+-- Two contents are equal exactly if their bytes are. Eight bytes at a time say the same; the last eight are looked at even where some of
+-- them were before. a and b are the contents, i is the count of bytes that are equal so far, k the place of the last eight. Assumes
+-- nothing.
 use mathlib.Core.Path.{◌≡◌, refl, sym, ap, ◌∙◌, subst}
-use mathlib.Core.Bool.{Bool, ◌&&◌, and-true}
+use mathlib.Core.Bool.{Bool, true, false, not, ◌&&◌, and-true}
 use mathlib.Core.List.{◌++◌}
 use Prim.Native.Nat.{ℕ, suc, ◌+◌, ◌-◌, ◌<◌, ◌≤◌}
 use native.Mathlib.Omega.{arith}
 use lib.Dec.{T, eqb}
 use lib.ListN.{length, get_or, take, drop, length-drop, take-append-drop}
-use lib.Seq.{take_all, take-take}
+use lib.Seq.{take-add, take_all, take-take}
+use borrow.Author.Tests.{not-true, not-false}
 use Rattle.rules.specs.Line.{Content}
 use Rattle.rules.specs.Facts.{same_content}
 use Rattle.text.proofs.Places.{left-next}
-use Rattle.trees.proofs.Lists.{same_test}
+use Rattle.trees.proofs.Lists.{is_false, same_test}
 use Rattle.trees.proofs.Disagreeing.{content_equal, content_itself}
 
 -- ---- equal contents pass the test
 
 pub equal_same : (a b : Content) → a ≡ b → T (same_content a b)
 equal_same a b e = subst (λ (c : Content). T (same_content a c)) e (content_itself a)
+
+same_equal : (a b : Content) (z : Bool) → z ≡ same_content a b → z ≡ true → a ≡ b
+same_equal a b z e y = content_equal a b (subst T (sym y ∙ e) tt)
 
 -- ---- eight bytes
 
@@ -55,22 +60,44 @@ module _ (a b : Content) where
     pub low : i ≤ length a
     pub first : take i a ≡ take i b
 
-  module _ (i : ℕ) (w : Agree i) (z : Bool) (k : ℕ) (q : k ≡ length a - 8) where
-    -- the bytes before the last eight are equal
-    pub eight-end : 8 ≤ length a → k ≤ i → z ≡ same_content (take 8 (drop k a)) (take 8 (drop k b)) → z ≡ same_content a b
-    eight-end h g e =
-        e ∙ (λ j. same_content (all a (omega arith) j) (all b (omega (arith, w.long)) j)) ∙ same_test _ _ to from
-      where
-        all : (s : Content) → length s ≡ length a → take 8 (drop k s) ≡ drop k s
-        all s e = take_all 8 (drop k s) (omega (arith, length-drop k s))
+  pub agree_start : length a ≡ length b → Agree 0
+  agree_start e = record { long = e; low = omega arith; first = refl }
 
-        start : take k a ≡ take k b
-        start = sym (take-take k i a g) ∙ ap (take k) w.first ∙ take-take k i b g
+  -- eight bytes differ
+  pub eight_stop : (i : ℕ) (z : Bool) → z ≡ same_content (take 8 (drop i a)) (take 8 (drop i b)) → not z ≡ true → false ≡ same_content a b
+  eight_stop i z e y =
+      sym (is_false (same_content a b) (λ t.
+      subst T (sym e ∙ not-true z y)
+      (equal_same (take 8 (drop i a)) (take 8 (drop i b)) (ap (λ (s : Content). take 8 (drop i s)) (content_equal a b t)))))
 
-        to : T (same_content (drop k a) (drop k b)) → T (same_content a b)
-        to t =
-            equal_same a b (sym (take-append-drop k a) ∙ (λ j. start j ++ content_equal (drop k a) (drop k b) t j)
-            ∙ take-append-drop k b)
+  module _ (i : ℕ) (w : Agree i) where
+    more : (m : ℕ) → i + m ≤ length a → take m (drop i a) ≡ take m (drop i b) → Agree (i + m)
+    more m h e = record {
+      long = w.long;
+      low = h;
+      first = take-add i m a ∙ (λ j. w.first j ++ e j) ∙ sym (take-add i m b);
+    }
 
-        from : T (same_content a b) → T (same_content (drop k a) (drop k b))
-        from t = equal_same (drop k a) (drop k b) (ap (drop k) (content_equal a b t))
+    module _ (z : Bool) (k : ℕ) (q : k ≡ length a - 8) where
+      -- eight more are equal
+      pub eight-on : i < k → z ≡ same_content (take 8 (drop i a)) (take 8 (drop i b)) → not z ≡ false → Agree (i + 8)
+      eight-on h e y = more 8 (omega arith) (same_equal (take 8 (drop i a)) (take 8 (drop i b)) z e (not-false z y))
+
+      -- the bytes before the last eight are equal
+      pub eight-end : 8 ≤ length a → k ≤ i → z ≡ same_content (take 8 (drop k a)) (take 8 (drop k b)) → z ≡ same_content a b
+      eight-end h g e =
+          e ∙ (λ j. same_content (all a (omega arith) j) (all b (omega (arith, w.long)) j)) ∙ same_test _ _ to from
+        where
+          all : (s : Content) → length s ≡ length a → take 8 (drop k s) ≡ drop k s
+          all s e = take_all 8 (drop k s) (omega (arith, length-drop k s))
+
+          start : take k a ≡ take k b
+          start = sym (take-take k i a g) ∙ ap (take k) w.first ∙ take-take k i b g
+
+          to : T (same_content (drop k a) (drop k b)) → T (same_content a b)
+          to t =
+              equal_same a b (sym (take-append-drop k a) ∙ (λ j. start j ++ content_equal (drop k a) (drop k b) t j)
+              ∙ take-append-drop k b)
+
+          from : T (same_content a b) → T (same_content (drop k a) (drop k b))
+          from t = equal_same (drop k a) (drop k b) (ap (drop k) (content_equal a b t))

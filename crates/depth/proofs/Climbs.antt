@@ -62,6 +62,12 @@ module _ (ls fs : List ℕ) where
           step ih (yes e) = rw (eq-eqb k 0 e) (omega arith)
           step ih (no e) = let u = c.up k (omega arith) h in omega (arith, more f k e, ih (up_line ls fs k) (omega arith))
 
+  -- the parent's line can be climbed from as well
+  pub climbs_up : (l u : ℕ) → Climbs ls fs l → (l ≡ 0 → ⊥) → u ≡ up_line ls fs l → Climbs ls fs u
+  climbs_up l u c e q =
+      let h = c.up l (omega arith) (omega arith) in
+      record { room = omega (arith, c.room, q); up = λ k a b. c.up k a (omega (arith, q)) }
+
   pub up_lt : (l u : ℕ) → Climbs ls fs l → (l ≡ 0 → ⊥) → u ≡ up_line ls fs l → u < l
   up_lt l u c e q = let h = c.up l (omega arith) (omega arith) in omega (arith, q)
 
@@ -88,5 +94,11 @@ module _ (ls fs : List ℕ) where
       go : (k : ℕ) → Dec (k ≡ l) → 0 < get_or (set ds l d) k 0 → get_or (set ds l d) k 0 ≡ depth_on ls fs k
       go k (yes q) i = ap (λ (j : ℕ). get_or (set ds l d) j 0) q ∙ get_or-set_same ds l d 0 h ∙ e ∙ ap (depth_on ls fs) (sym q)
       go k (no q) i = let s = get_or-set_other ds l k d 0 q in s ∙ w.right k (omega arith)
+
+  -- ---- the first lines
+
+  -- each of the first lines can be climbed from as well
+  pub climbs_line : (count l : ℕ) → Climbs ls fs count → l < count → Climbs ls fs (l + 1)
+  climbs_line count l c h = record { room = omega (arith, c.room); up = λ k a b. c.up k a (omega arith) }
 
 pub ruleset climbing = (climb_top, climb-le, up_lt, one_more, noted_here, noted_more)

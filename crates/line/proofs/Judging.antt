@@ -11,6 +11,7 @@ use lib.Dec.{eqb, leb, ltb}
 use lib.ListN.{length, drop, length-drop, length-append}
 use borrow.Author.Tests.{ne_eqb, leb-true, leb-false}
 use Rattle.std.specs.Prelude.{Option, Some, None, Result, Ok, Err, ok_or}
+use Rattle.std.specs.Option.{option_or}
 use Rattle.std.proofs.lemmas.Option.{cond_some}
 use Rattle.rules.specs.Codes.{accepted, byte_not_allowed, few_tabs, bad_number, bad_parent, bad_content}
 use Rattle.rules.specs.Limits.{GREATEST}
@@ -101,6 +102,11 @@ pub record Parented (s : List ℕ) (parts : Parts) (n m : ℕ) : Type 0 where
   pub ok : parent_ok (parent_part (before LF s)) ≡ true
   pub is : value (parent_part (before LF s)) ≡ m
 
+-- a number, or none where there is none, is that number
+pub or_none : (o p : Option ℕ) → o ≡ option_or p None → o ≡ p
+or_none o (Some x) e = e
+or_none o None e = e
+
 read_some : (o : Option ℕ) (f : Fault) (n : ℕ) → ok_or o f ≡ Ok n → o ≡ Some n
 read_some (Some x) f n e = cc
 read_some None f n e = cc
@@ -132,20 +138,22 @@ module _ (s : List ℕ) (parts : Parts) (k : Cut s parts) (r : Result ℕ Fault)
     pub numbered : u ≡ true → Numbered s parts n
     numbered f = record { cut = k; ok = tested ∙ f; is = (number_some (number_part (before LF s)) n read).1 }
 
-module _ (s : List ℕ) (parts : Parts) (n : ℕ) (a : Numbered s parts n) (r : Result ℕ Fault) (b : r ≡ ok_or parts.parent BadParent) where
+-- o is the parent's number as it is asked for
+module _ (s : List ℕ) (parts : Parts) (n : ℕ) (a : Numbered s parts n) (o : Option ℕ) (r : Result ℕ Fault) (b : r ≡ ok_or o BadParent)
+    (i : o ≡ parts.parent) where
   pub judge_parent : (f : Fault) → r ≡ Err f → Err f ≡ next_line s
   judge_parent f q =
       ap Err w.1 ∙ told_faulty (before LF s) bad_parent (rw (a.cut.bytes, a.cut.tabs, a.ok, none)) (λ z. absurd (omega (arith, z)))
     where
-      w : (parts.parent ≡ None) × (f ≡ BadParent)
-      w = read_none parts.parent BadParent f (sym b ∙ q)
+      w : (o ≡ None) × (f ≡ BadParent)
+      w = read_none o BadParent f (sym b ∙ q)
 
       none : parent_ok (parent_part (before LF s)) ≡ false
-      none = none_read (parent_part (before LF s)) (sym a.cut.parent ∙ w.0)
+      none = none_read (parent_part (before LF s)) (sym a.cut.parent ∙ sym i ∙ w.0)
 
   pub parented : (m : ℕ) → r ≡ Ok m → Parented s parts n m
   parented m q =
-      let w = number_some (parent_part (before LF s)) m (sym a.cut.parent ∙ read_some parts.parent BadParent m (sym b ∙ q)) in
+      let w = number_some (parent_part (before LF s)) m (sym a.cut.parent ∙ sym i ∙ read_some o BadParent m (sym b ∙ q)) in
       record { number = a; ok = w.0; is = w.1 }
 
 -- `long` is the content's length, u whether the content keeps its rule
@@ -197,7 +205,7 @@ module _ (s : List ℕ) (parts : Parts) (n m long : ℕ) (u : Bool) (a : Parente
     pub row_told : u ≡ true → Ok row ≡ next_line s
     row_told g = ap Ok row_is ∙ told-good (before LF s) (judged ∙ rw g)
 
-pub ruleset judges = (cut_is, judge_shape, judge_none, judge_number, numbered, judge_parent, parented, judge_content, row_told)
+pub ruleset judges = (cut_is, judge_shape, judge_none, judge_number, numbered, or_none, judge_parent, parented, judge_content, row_told)
 
 -- ---- the line at a place
 

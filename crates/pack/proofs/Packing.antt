@@ -1,7 +1,7 @@
 -- The end of a merge with the table that memory holds: its lengths are the sums, so the code is the definitions', and what is written is
 -- its written form and its ledger. T holds the contents, L and F are the two arrays, t is the table's rows, s are the sums; a prime marks
 -- a buffer afterwards. Assumes nothing.
-use mathlib.Core.Path.{◌≡◌, sym, ap, ◌∙◌}
+use mathlib.Core.Path.{◌≡◌, refl, sym, ap, ◌∙◌}
 use mathlib.Core.Bool.{Bool, cond}
 use mathlib.Core.List.{List}
 use Prim.Native.Nat.{ℕ}
@@ -10,6 +10,8 @@ use lib.Dec.{eqb}
 use lib.ListN.{length}
 use borrow.Author.Tests.{eq-eqb, ne_eqb}
 use Rattle.rules.specs.Codes.{accepted}
+use Rattle.rules.specs.Kinds.{shortage_code}
+use Rattle.rules.specs.declared.kinds.Shortage.{Shortage}
 use Rattle.rules.specs.Line.{Row}
 use Rattle.rules.specs.Tree.{tree_of}
 use Rattle.rules.specs.Written.{tidied, over}
@@ -25,7 +27,7 @@ use Rattle.ledger.specs.Entries.{entries_in, entries_to, LedgerReady}
 use Rattle.ledger.proofs.Ordered.{entries_ordered}
 use Rattle.ledger.proofs.Lengths.{sums_table, sums_ledger, sums_ready}
 use Rattle.pack.specs.Packed.{room_code, room_told, PackReady, Packs}
-use Rattle.pack.proofs.Rooms.{code_of, Fitting, fitting, room_answer, room_tabled, room_ledgered}
+use Rattle.pack.proofs.Rooms.{lacks, code_of, Fitting, fitting, room_answer, room_tabled, room_ledgered}
 
 module _ (F : List ℕ) (count : ℕ) (s : Sums) (q : s ≡ sums_of F count) (table book : List ℕ) (code : ℕ)
     (e : code ≡ room_code count s.table s.ledger (length table) (length book)) where
@@ -106,3 +108,23 @@ module _ (F : List ℕ) (count : ℕ) (s : Sums) (q : s ≡ sums_of F count) (ta
                   ∙ ap (λ (b : Bool). cond b (over (ledger es) book) book) test);
             };
       }
+
+-- ---- the ways through `fill`, by what `room` answers there
+
+module _ (T : List (List ℕ)) (L F : List ℕ) (count : ℕ) (s : Sums) (q : s ≡ sums_of F count) (table book : List ℕ) where
+  pub fill_refused : (z : Shortage) → shortage_code z ≡ room_code count s.table s.ledger (length table) (length book)
+      → Packs T L F count table book (room_told (shortage_code z) s.table s.ledger) table book
+  fill_refused z e = pack_refused F count s q table book (shortage_code z) e T L (lacks z)
+
+  module _ (e : accepted ≡ room_code count s.table s.ledger (length table) (length book)) where
+    pub fill-table : PackReady T L F count → TableReady T L F count (length table)
+    fill-table w = pack-table F count s q table book accepted e T L refl w
+
+    pub fill-ledger : LedgerReady F count s.bytes (length book)
+    fill-ledger = pack-ledger F count s q table book accepted e refl
+
+    pub fill_done : (table' book' : List ℕ) → TableWritten T L F table table' → book' ≡ over (ledger (entries_to F count)) book
+        → Packs T L F count table book (room_told accepted s.table s.ledger) table' book'
+    fill_done table' book' v w = pack_done F count s q table book accepted e T L refl v w
+
+pub ruleset fills = (fill-ledger, fill_done)

@@ -33,6 +33,7 @@ fn room(count: usize, s: Sums, table_room: usize, ledger_room: usize) -> Result<
 }
 
 // Writes the table and its ledger, if there is room for both.
+#[tactic(auto, using(crate::proofs::Packing::fills))]
 fn fill(
     texts: &[&[u8]],
     table: &Table,

@@ -1,4 +1,6 @@
 -- `read_line` meets its contract. Assumes nothing.
+use native.Mathlib.Omega.{arith}
+use Rattle.std.proofs.Common.{◌≡◌, ◌-◌}
 use Rattle.std.proofs.lemmas.Result.{err_from_is_err_and}
 use Rattle.line.proofs.Judging.{Numbered, Parented, judges}
 use Rattle.line.proofs.read_line.Goals as goal
@@ -27,6 +29,7 @@ returns-then-not-content_fits c =
     let p = c.in_ok-parts.ensures in
     let n = c.in_ok-ok_or.was in
     let m = c.in_ok-ok_or-2.was in
+    let d : c.saturating_sub-length.result ≡ c.in_ok-parts.parts.end - c.in_ok-parts.parts.start = omega arith in
     let a : Parented c.args.rest.now c.in_ok-parts.parts c.in_ok-ok_or.field-0 c.in_ok-ok_or-2.field-0 = search judges in
     search judges
 
@@ -35,4 +38,5 @@ returns c =
     let p = c.in_ok-parts.ensures in
     let n = c.in_ok-ok_or.was in
     let m = c.in_ok-ok_or-2.was in
+    let d : c.saturating_sub-length.result ≡ c.in_ok-parts.parts.end - c.in_ok-parts.parts.start = omega arith in
     search judges

@@ -1,20 +1,14 @@
--- The proof of `fill`: each way through it is a law of Packing. Assumes nothing.
-use Rattle.std.proofs.Common.{refl}
+-- The proof of `fill`: what the search does not find alone. That there is room is sought, not named, so that where the table is written
+-- before this is known the check says what it lacks. Assumes nothing.
+use Rattle.std.proofs.Common.{rules}
 use Rattle.std.proofs.lemmas.Result.{err_from_is_err_and}
-use Rattle.pack.proofs.Packing.{pack_refused, pack-table, pack-ledger, pack_done}
-use Rattle.pack.proofs.Rooms.{lacks}
+use Rattle.pack.proofs.Packing.{fill_refused, fill-table}
 use Rattle.pack.proofs.fill.Goals as goal
 
 pub returns-in_err-room : goal.returns-in_err-room
 returns-in_err-room c =
     let p = err_from_is_err_and c.from_residual.result c.from_residual.ensures.1 in
-    rw (p.1, p.2) (pack_refused _ _ _ c.requires.1 _ _ _ c.in_err-room.ensures _ _ (lacks c.in_err-room.field-0.0))
+    rw (p.1, p.2) (fill_refused _ _ _ _ _ c.requires.1 _ _ c.in_err-room.field-0.0 c.in_err-room.ensures)
 
 pub write_table-requires : goal.write_table-requires
-write_table-requires c = pack-table _ _ _ c.requires.1 _ _ _ c.in_ok-room.ensures _ _ refl c.requires.0
-
-pub write_ledger-requires : goal.write_ledger-requires
-write_ledger-requires c = pack-ledger _ _ _ c.requires.1 _ _ _ c.in_ok-room.ensures refl
-
-pub returns : goal.returns
-returns c = pack_done _ _ _ c.requires.1 _ _ _ c.in_ok-room.ensures _ _ refl c.write_table.ensures c.write_ledger.ensures
+write_table-requires c = fill-table _ _ _ _ _ c.requires.1 _ c.args.ledger.now (search rules) (search rules)
