@@ -67,9 +67,11 @@ pub fn print_written<R: Print>(rt: &R, buffer: &[u8], length: usize) -> io::Resu
 pub fn differing(buffer: &[u8; ROOM], expected: &[u8; ROOM]) -> usize
     ensures { result ≡ count_by (λ pair. not (pair.0 == pair.1)) (zip buffer.now expected.now) }
 {
-    buffer
-        .iter()
-        .zip(expected)
-        .filter(|(byte, other)| byte != other)
-        .count()
+    let mut count = 0;
+    for (byte, other) in buffer.iter().zip(expected) {
+        if byte != other {
+            count += 1;
+        }
+    }
+    count
 }

@@ -67,18 +67,16 @@ impl Buffers {
     }
 }
 
-// A call that is lent so many bytes of each buffer, or all.
-fn merged(case: Case<'_>, table_room: usize, ledger_room: usize) -> (Merged, Buffers) {
-    let mut table = [FILLER; ROOM];
-    let mut ledger = [FILLER; ROOM];
-    let answer = merge(
-        case.old,
-        case.first,
-        case.second,
-        &mut table[..table_room.min(ROOM)],
-        &mut ledger[..ledger_room.min(ROOM)],
-    );
-    (answer, Buffers { table, ledger })
+// What each of two buffers should have. One array stands for both where they are to be as they were.
+#[derive(Clone, Copy)]
+struct Expected<'a> {
+    table: &'a [u8; ROOM],
+    ledger: &'a [u8; ROOM],
+}
+
+// A call that is lent these two buffers.
+fn merged(case: Case<'_>, table: &mut [u8], ledger: &mut [u8]) -> Merged {
+    merge(case.old, case.first, case.second, table, ledger)
 }
 
 // The line of a call: its five numbers, and for each buffer how many of its bytes are not as expected.
@@ -86,7 +84,7 @@ fn print_answer<R: Print>(
     rt: &R,
     answer: Merged,
     buffers: &Buffers,
-    expected: &Buffers,
+    expected: Expected<'_>,
 ) -> io::Result<()> {
     let Merged {
         code,
@@ -95,51 +93,71 @@ fn print_answer<R: Print>(
         table_length,
         ledger_length,
     } = answer;
-    let off_table = differing(&buffers.table, &expected.table);
-    let off_ledger = differing(&buffers.ledger, &expected.ledger);
+    let off_table = differing(&buffers.table, expected.table);
+    let off_ledger = differing(&buffers.ledger, expected.ledger);
     println!(rt;
         "{code}\t{table}\t{place}\t{table_length}\t{ledger_length}\t{off_table}\t{off_ledger}"
     )
 }
 
-// A call that is lent so many bytes of each of two new buffers.
+// A call that is lent so many bytes of each of two new buffers, or all.
 fn tell_in<R: Print>(
     rt: &R,
     case: Case<'_>,
     table_room: usize,
     ledger_room: usize,
-    expected: &Buffers,
+    expected: Expected<'_>,
 ) -> io::Result<()> {
-    let (answer, buffers) = merged(case, table_room, ledger_room);
+    let mut buffers = Buffers::filled();
+    let answer = merged(
+        case,
+        &mut buffers.table[..table_room.min(ROOM)],
+        &mut buffers.ledger[..ledger_room.min(ROOM)],
+    );
     print_answer(rt, answer, &buffers, expected)
 }
 
 // The calls that lack a byte, and are to leave both buffers as they were: none for a refused merge, whose lengths are 0, and none for an
 // empty table. A ledger is never empty.
-fn tell_short<R: Print>(rt: &R, case: Case<'_>, table: usize, ledger: usize) -> io::Result<()> {
-    let filled = Buffers::filled();
+fn tell_short<R: Print>(
+    rt: &R,
+    case: Case<'_>,
+    table: usize,
+    ledger: usize,
+    untouched: Expected<'_>,
+) -> io::Result<()> {
     let Some(ledger_short) = ledger.checked_sub(1) else {
         return Ok(());
     };
     if let Some(table_short) = table.checked_sub(1) {
-        tell_in(rt, case, table_short, ledger, &filled)?;
-        tell_in(rt, case, table_short, ledger_short, &filled)?;
+        tell_in(rt, case, table_short, ledger, untouched)?;
+        tell_in(rt, case, table_short, ledger_short, untouched)?;
     }
-    tell_in(rt, case, table, ledger_short, &filled)
+    tell_in(rt, case, table, ledger_short, untouched)
 }
 
 fn tell<R: Print>(rt: &R, case: Case<'_>) -> io::Result<()> {
     rt.write_all(case.line)?;
-    let (answer, written) = merged(case, ROOM, ROOM);
-    print_answer(rt, answer, &written, &Buffers::filled())?;
+    let filled = [FILLER; ROOM];
+    let untouched = Expected {
+        table: &filled,
+        ledger: &filled,
+    };
+    let mut written = Buffers::filled();
+    let answer = merged(case, &mut written.table, &mut written.ledger);
+    print_answer(rt, answer, &written, untouched)?;
     let table = answer.table_length;
     let ledger = answer.ledger_length;
     if answer.code == ACCEPTED {
         print_written(rt, &written.table, table)?;
         print_written(rt, &written.ledger, ledger)?;
     }
-    tell_in(rt, case, table, ledger, &written)?;
-    tell_short(rt, case, table, ledger)
+    let as_written = Expected {
+        table: &written.table,
+        ledger: &written.ledger,
+    };
+    tell_in(rt, case, table, ledger, as_written)?;
+    tell_short(rt, case, table, ledger, untouched)
 }
 
 fn main(rt: HostRuntime) -> io::Result<()> {

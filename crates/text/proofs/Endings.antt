@@ -1,13 +1,14 @@
 -- The ends of a text's lines: whether the text is ended, and how many ends it has. s is the text. Assumes nothing.
-use mathlib.Core.Path.{◌≡◌, refl, sym, ap}
+use mathlib.Core.Path.{◌≡◌, refl, sym, ap, ◌∙◌}
 use mathlib.Core.Bool.{cond}
-use mathlib.Core.List.{List, [], ◌∷◌}
+use mathlib.Core.List.{List, [], ◌∷◌, ◌++◌}
 use Prim.Native.Nat.{ℕ, suc, ◌+◌, ◌-◌, ◌≤◌}
 use native.Mathlib.Omega.{arith}
 use lib.Dec.{eqb}
 use lib.ListN.{length, get_or}
 use Rattle.std.specs.List.{count_by}
 use Rattle.std.proofs.lemmas.List.Recursion.{is_count_by}
+use Rattle.std.proofs.lemmas.List.Sums.{count_by-le-length, sum_by-append}
 use Rattle.rules.specs.Text.{LF, count, last, ended}
 
 -- the last byte
@@ -26,3 +27,11 @@ counted s = sym (is_count_by (count LF) (λ x. eqb x LF) refl step s)
   where
     step : (x : ℕ) (s : List ℕ) → count LF (x ∷ s) ≡ cond (eqb x LF) (1 + count LF s) (count LF s)
     step x s = let e : suc (count LF s) ≡ 1 + count LF s = omega arith in ap (λ (n : ℕ). cond (eqb x LF) n (count LF s)) e
+
+pub count_le : (s : List ℕ) → count LF s ≤ length s
+count_le s = omega (arith, counted s, count_by-le-length (λ x. eqb x LF) s)
+
+-- a part, and what is left behind it
+pub count-append : (part rest : List ℕ) → count LF (part ++ rest) ≡ count LF part + count LF rest
+count-append part rest =
+    sym (counted (part ++ rest)) ∙ sum_by-append (λ x. cond (eqb x LF) 1 0) part rest ∙ λ i. counted part i + counted rest i

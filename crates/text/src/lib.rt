@@ -1,7 +1,7 @@
 // The bytes of a text, read: runs of plain bytes, decimals, ends of lines; and one of some texts.
 #![tactic(auto)]
 
-ghost use Rattle.std.specs.Prelude.{[], map, ◌≡◌, ◌<◌, length, get_or, drop};
+ghost use Rattle.std.specs.Prelude.{[], map, ◌≡◌, ◌<◌, ◌≤◌, length, get_or, drop};
 ghost use Rattle.rules.specs.Text.{LF as line_feed, count, ended as ended_of, no_leading_zero as leads_no_zero};
 ghost use Rattle.text.specs.Reads.{byte_at, plain as plain_of, plain_run, digits_of, number_at};
 
@@ -113,11 +113,29 @@ pub fn ended(s: &[u8]) -> bool
     }
 }
 
-// How many lines of the text are ended.
+// How many lines of a short text are ended. Their number fits a byte, and is counted in one: so the compiler takes more bytes at a time.
+fn few_ends(s: &[u8]) -> u8
+    requires { length s.now ≤ 255 }
+    ensures { result ≡ count line_feed s.now }
+{
+    let mut count = 0;
+    for x in s {
+        if *x == LF {
+            count += 1;
+        }
+    }
+    count
+}
+
+// How many lines of the text are ended, counted part by part.
 pub fn ends(s: &[u8]) -> usize
     ensures { result ≡ count line_feed s.now }
 {
-    s.iter().filter(|x| **x == LF).count()
+    let mut count = 0;
+    for part in s.chunks(128) {
+        count += usize::from(few_ends(part));
+    }
+    count
 }
 
 // One of the texts.
