@@ -10,8 +10,8 @@
  *   says, which may be written. No pointer is NULL, not even one to no bytes. Bytes need no alignment.
  * - No buffer overlaps a text or the other buffer. Texts are only read, so they may overlap, or be one.
  * - Nobody else writes to them during the call. The library itself only reads the texts.
- * - The stack has room. A call on one table takes 167 KB of it, tidy up to 238 KB (for 512 records, each below the last), and merge 663
- *   to 736 KB. docs/PROMISES.md says how that was measured. A call that runs out of stack is stopped by the system, so a thread with a
+ * - The stack has room. A call on one table takes 167 KB of it, tidy up to 214 KB (for 512 records, each below the last), and merge 663
+ *   to 712 KB. docs/PROMISES.md says how that was measured. A call that runs out of stack is stopped by the system, so a thread with a
  *   small one is no place for it.
  *
  * No call borrows other memory, keeps a pointer after it has answered, or holds anything from one call to the next: calls may be made

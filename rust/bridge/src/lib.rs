@@ -45,7 +45,7 @@
 //! # Stack
 //!
 //! The library borrows no memory but the stack. It takes 167 KB for a call on one
-//! table, for [`tidy`] up to 246 KB, and for [`merge`] 660 to 742 KB.
+//! table, for [`tidy`] up to 214 KB, and for [`merge`] 663 to 712 KB.
 //! `docs/PROMISES.md` says how that was measured, and `tests/stack.rs` tries it. A
 //! thread of Rust's own has 2 MB unless it is told otherwise.
 
