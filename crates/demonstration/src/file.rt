@@ -15,8 +15,8 @@ use std::{fs, io, str};
 // The buffer of a file, and how many bytes were read into it: None, unless the file was read.
 #[derive(Drop)]
 pub struct File {
-    pub bytes: [u8; MOST_READ],
-    pub length: Option<usize>,
+    bytes: [u8; MOST_READ],
+    length: Option<usize>,
     pub ghost counted: { IsPrefixLen (bytes_read length) bytes },
 }
 
