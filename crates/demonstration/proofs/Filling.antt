@@ -48,12 +48,6 @@ pub read_there : (fs : List File) (t : ℕ) (f : File) → t < length fs
     → which_read (set fs t f) ≡ set (which_read fs) t (get_or (which_read (set fs t f)) t false)
 read_there fs t f h = map-set (λ f. is_some f.length) false fs t f h
 
-pub now_read : (fs : List File) (t : ℕ) (f : File) → t < length fs → is_some f.length ≡ true
-    → get_or (which_read (set fs t f)) t false ≡ true
-now_read [] t f h r = absurd (omega (arith, h))
-now_read (g ∷ fs) zero f h r = r
-now_read (g ∷ fs) (suc t) f h r = now_read fs t f (omega (arith, h)) r
-
 -- ---- one file after another
 
 -- files up to t are read, of three
